@@ -9,9 +9,9 @@ use Rattle.graphs.proofs.Search.{same_test, true-both}
 use Rattle.acceptance.specs.declared.TableFault.TheVariants.{Size, Order, Bounds}
 use Rattle.acceptance.specs.declared.Opened.{Opened}
 use Rattle.acceptance.specs.declared.Opened.TheVariants.{Accepted, Refused}
-use Rattle.lattice.specs.Table.{every, below, found, sized, ordered, bounded, accepted, meet, join, sideBound}
+use Rattle.lattice.specs.Table.{every, below, found, sized, ordered, bounded, accepted, meet, join, side_bound}
 use Rattle.acceptance.specs.Reply.{opened}
-use Rattle.lattice.specs.Words.{related, Words, bit, turned, wordBound, allFound, rowOrdered, OrderWords, Sided, Lower}
+use Rattle.lattice.specs.Words.{related, Words, bit, turned, word_bound, all_found, row_ordered, OrderWords, Sided, Lower}
 use Rattle.lattice.proofs.Every.{and_left, and_right, every-at, every-all, true-not-false}
 use Rattle.lattice.proofs.OrderLaws.{Ordered, facts-ordered, rows-facts, rows-ordered, row-bit, side, sided, turned-words}
 use Rattle.lattice.proofs.WordLaws.{word_below}
@@ -25,16 +25,16 @@ module _ (n : ℕ) (t : List ℕ) where
   unfolding opened
   answer-size h = rw h
 
-  unordered : (down : List ℕ) → sized n t ≡ true → Words n t false down → every n (rowOrdered n down) ≡ false → ordered n t ≡ false
+  unordered : (down : List ℕ) → sized n t ≡ true → Words n t false down → every n (row_ordered n down) ≡ false → ordered n t ≡ false
   unordered down s words h = sym (rows-ordered n t down (size-facts n t s).1 words) ∙ h
 
-  pub answer-order : (down : List ℕ) → sized n t ≡ true → Words n t false down → every n (rowOrdered n down) ≡ false
+  pub answer-order : (down : List ℕ) → sized n t ≡ true → Words n t false down → every n (row_ordered n down) ≡ false
       → Refused Order ≡ opened n t
   unfolding opened
   answer-order down s words h = rw (s, unordered down s words h)
 
 -- The tests of size and order pass.
-pub order-words : {n : ℕ} {t down : List ℕ} → sized n t ≡ true → Words n t false down → every n (rowOrdered n down) ≡ true → OrderWords n t down
+pub order-words : {n : ℕ} {t down : List ℕ} → sized n t ≡ true → Words n t false down → every n (row_ordered n down) ≡ true → OrderWords n t down
 order-words size words order = record { size = size; words = words; order = order }
 
 -- The rows are an order. The answer depends on whether all bounds of one side are found.
@@ -66,18 +66,18 @@ module _ (n : ℕ) (t down : List ℕ) (passed : OrderWords n t down) where
     side-sided = sided n (related t up) ws table-size.1 (side n t up table-size.2 table-ordered) made
 
     -- the bound of two words is the bound of the table
-    pub side-bound : (a b : ℕ) → a < n → b < n → wordBound n ws a b ≡ sideBound n t up a b
+    pub side-bound : (a b : ℕ) → a < n → b < n → word_bound n ws a b ≡ side_bound n t up a b
     side-bound = bound-same n t table-size.2 table-ordered up ws table-size.1 made
 
     -- every two types have a bound on the side exactly when they have a meet and a join
-    side-bounded : allFound n (wordBound n ws) ≡ bounded n t
-    unfolding allFound bounded
+    side-bounded : all_found n (word_bound n ws) ≡ bounded n t
+    unfolding all_found bounded
     side-bounded =
         let f : (2 ≤ n) × (n ≤ 64) × (length t ≡ 8 * n) = table-size in
-        found-same n (wordBound n ws) (sideBound n t up) side-bound ∙
+        found-same n (word_bound n ws) (side_bound n t up) side-bound ∙
         same_test _ _
         (λ h.
-        let all : (a b : ℕ) → a < n → b < n → found (sideBound n t up a b) ≡ true =
+        let all : (a b : ℕ) → a < n → b < n → found (side_bound n t up a b) ≡ true =
         λ a b l r. every-at _ n b (every-at _ n a h l) r in
         every-all _ n λ a l.
         every-all _ n λ b r.
@@ -86,11 +86,11 @@ module _ (n : ℕ) (t down : List ℕ) (passed : OrderWords n t down) where
         (other-side n t f.2 table-ordered up true (omega (arith, f.0)) all a b l r))
         λ h. every-all _ n λ a l. every-all _ n λ b r. both up a b (every-at _ n b (every-at _ n a h l) r)
       where
-        both : (up : Bool) (a b : ℕ) → found (meet n t a b) && found (join n t a b) ≡ true → found (sideBound n t up a b) ≡ true
+        both : (up : Bool) (a b : ℕ) → found (meet n t a b) && found (join n t a b) ≡ true → found (side_bound n t up a b) ≡ true
         both true a b = and_right (found (meet n t a b)) (found (join n t a b))
         both false a b = and_left (found (meet n t a b)) (found (join n t a b))
 
-    pub answer-found : (b : Bool) → allFound n (wordBound n ws) ≡ b → cond b Accepted (Refused Bounds) ≡ opened n t
+    pub answer-found : (b : Bool) → all_found n (word_bound n ws) ≡ b → cond b Accepted (Refused Bounds) ≡ opened n t
     unfolding opened
     answer-found b e = rw (passed.size, facts-ordered n t table-ordered, ← side-bounded, e)
 

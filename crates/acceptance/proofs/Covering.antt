@@ -14,7 +14,7 @@ use lib.Dec.{eqb}
 use borrow.Author.Count.{below_more}
 use borrow.Author.Tests.{eq-eqb, ne_eqb, eqb-true, not-true}
 use Rattle.lattice.specs.Table.{every, found}
-use Rattle.lattice.specs.Words.{bit, without, strictly, Under, holder, wordBound, allFound, Sided, Inside, Lower, Covered, BoundsWith, BoundsWithin}
+use Rattle.lattice.specs.Words.{bit, without, strictly, Under, holder, word_bound, all_found, Sided, Inside, Lower, Covered, BoundsWith, BoundsWithin}
 use Rattle.lattice.proofs.Every.{and_left, and_right, every-all, every-none, every-fails, below_or_not, true-not-false, found_some, last-passes, last_found}
 use Rattle.lattice.proofs.BoundLaws.{bound-turned}
 use Rattle.lattice.proofs.Bits.{bits-same, no-bit, and-bit, without-bit, cleared-bit, cleared-less, one_bit, or-bit}
@@ -35,14 +35,14 @@ module _ (n : ℕ) (ws : List ℕ) (few : n ≤ 64) (low : Lower n ws) where
   abbrev Meets : ℕ → ℕ → Type 0
   Meets a b = (c : ℕ) × (c < n) × (get_or ws c 0 ≡ bit_and (get_or ws a 0) (get_or ws b 0))
 
-  meets-found : (a b : ℕ) → Meets a b → found (wordBound n ws a b) ≡ true
+  meets-found : (a b : ℕ) → Meets a b → found (word_bound n ws a b) ≡ true
   unfolding holder
   meets-found a b (c, l, e) = last_found (λ k. eqb (get_or ws k 0) (bit_and (get_or ws a 0) (get_or ws b 0))) n c l (eq-eqb _ _ e)
 
-  found-meets : (a b : ℕ) → found (wordBound n ws a b) ≡ true → Meets a b
+  found-meets : (a b : ℕ) → found (word_bound n ws a b) ≡ true → Meets a b
   unfolding holder
   found-meets a b h =
-      let (c, e) = found_some (wordBound n ws a b) h in
+      let (c, e) = found_some (word_bound n ws a b) h in
       let (l, f) = last-passes (λ k. eqb (get_or ws k 0) (bit_and (get_or ws a 0) (get_or ws b 0))) n c e in
       (c, l, eqb-true _ _ f)
 
@@ -126,7 +126,7 @@ module _ (n : ℕ) (ws : List ℕ) (few : n ≤ 64) (low : Lower n ws) where
           (r.0, r.1, r.2 ∙ common-outer x y a b w u lx ly la lb a_x b-y is-w is-u)
 
   module _ (word : ℕ → ℕ) (covers : (z : ℕ) → z < n → Covered n ws z (word z)) where
-    module _ (pairs : (z a b : ℕ) → z < n → a < 64 → b < 64 → bit (word z) a ≡ true → bit (word z) b ≡ true → found (wordBound n ws a b) ≡ true) where
+    module _ (pairs : (z a b : ℕ) → z < n → a < 64 → b < 64 → bit (word z) a ≡ true → bit (word z) b ≡ true → found (word_bound n ws a b) ≡ true) where
       -- the types below a type that has a word below k
       meets-between : (k z x y : ℕ) → z < n → x < n → y < n → get_or ws z 0 < suc k → MeetsUnder k
           → (c : ℕ) × (c < n) × (bit (word z) c ≡ true) × (bit (get_or ws c 0) x ≡ true)
@@ -154,20 +154,20 @@ module _ (n : ℕ) (ws : List ℕ) (few : n ≤ 64) (low : Lower n ws) where
             ((covers z lz).over y ly (record { below = ey; apart = λ q. true-not-false (eqb y z) (eq-eqb y z q) f }))
 
       -- every two types have a meet
-      pub all_meet : 0 < n → allFound n (wordBound n ws) ≡ true
-      unfolding allFound
+      pub all_meet : 0 < n → all_found n (word_bound n ws) ≡ true
+      unfolding all_found
       all_meet l =
           every-all _ n λ a la.
           every-all _ n λ b lb.
           meets-found a b (meets-below (suc (get_or ws (n - 1) 0)) (n - 1) a b (omega arith) la lb (low.most a la) (low.most b lb) (omega arith))
 
 -- where one pair has no bound, not every two types have one
-bound-missing : (n : ℕ) (ws : List ℕ) (a b : ℕ) → a < n → b < n → found (wordBound n ws a b) ≡ false → allFound n (wordBound n ws) ≡ false
-unfolding allFound
+bound-missing : (n : ℕ) (ws : List ℕ) (a b : ℕ) → a < n → b < n → found (word_bound n ws a b) ≡ false → all_found n (word_bound n ws) ≡ false
+unfolding all_found
 bound-missing n ws a b la lb e = every-fails _ n a la (every-fails _ n b lb e)
 
 -- a type is its own bound
-own-bound : (n : ℕ) (ws : List ℕ) (a : ℕ) → a < n → found (wordBound n ws a a) ≡ true
+own-bound : (n : ℕ) (ws : List ℕ) (a : ℕ) → a < n → found (word_bound n ws a a) ≡ true
 unfolding holder
 own-bound n ws a l = last_found (λ k. eqb (get_or ws k 0) (bit_and (get_or ws a 0) (get_or ws a 0))) n a l (eq-eqb _ _ (sym (and_self (get_or ws a 0))))
 
@@ -179,25 +179,25 @@ gone w j k e = go (bit w k) refl (eqb k j) refl where
   go true f true g = inr (eqb-true k j g)
   go true f false g = absurd (true-not-false (bit (without w (2 ^ j)) k) (cleared-bit w j k ∙ rw (f, g)) e)
 
-all_none : (n : ℕ) (ws : List ℕ) → n ≡ 0 → allFound n (wordBound n ws) ≡ true
-unfolding allFound
-all_none n ws e = subst (λ (m : ℕ). every m (λ a. every n (λ b. found (wordBound n ws a b))) ≡ true) (sym e) (every-none _)
+all_none : (n : ℕ) (ws : List ℕ) → n ≡ 0 → all_found n (word_bound n ws) ≡ true
+unfolding all_found
+all_none n ws e = subst (λ (m : ℕ). every m (λ a. every n (λ b. found (word_bound n ws a b))) ≡ true) (sym e) (every-none _)
 
 module _ (n : ℕ) (ws : List ℕ) where
   -- the bounds of a with the types of `word` that are not in `left` were found
   pub record Tested (a word left : ℕ) : Type 0 where
     pub part : (b : ℕ) → b < 64 → bit left b ≡ true → bit word b ≡ true
-    pub done : (b : ℕ) → b < 64 → bit word b ≡ true → bit left b ≡ false → found (wordBound n ws a b) ≡ true
+    pub done : (b : ℕ) → b < 64 → bit word b ≡ true → bit left b ≡ false → found (word_bound n ws a b) ≡ true
 
   pub tested-begin : (a word : ℕ) → Tested a word word
   tested-begin a word = record { part = λ b l e. e; done = λ b l e f. absurd (true-not-false (bit word b) e f) }
 
-  pub tested-next : (a word left b : ℕ) → Tested a word left → found (wordBound n ws a b) ≡ true → Tested a word (without left (2 ^ b))
+  pub tested-next : (a word left b : ℕ) → Tested a word left → found (word_bound n ws a b) ≡ true → Tested a word (without left (2 ^ b))
   tested-next a word left b t e =
       record {
         part = λ k l f. t.part k l (and_left (bit left k) (not (eqb k b)) (sym (cleared-bit left b k) ∙ f));
         done = λ k l f g.
-            ⊎_elim (t.done k l f) (λ (q : k ≡ b). ap (λ (j : ℕ). found (wordBound n ws a j)) q ∙ e) (gone left b k g);
+            ⊎_elim (t.done k l f) (λ (q : k ≡ b). ap (λ (j : ℕ). found (word_bound n ws a j)) q ∙ e) (gone left b k g);
       }
 
   pub tested-end : (a word left : ℕ) → left ≡ 0 → Tested a word left → BoundsWith n ws a word true
@@ -207,14 +207,14 @@ module _ (n : ℕ) (ws : List ℕ) where
         no-stands = λ h. absurd (true-not-false true refl h);
       }
 
-  pub tested-fails : (a word b : ℕ) → a < n → b < n → found (wordBound n ws a b) ≡ false → BoundsWith n ws a word false
+  pub tested-fails : (a word b : ℕ) → a < n → b < n → found (word_bound n ws a b) ≡ false → BoundsWith n ws a word false
   tested-fails a word b la lb e =
       record { yes-stands = λ h. absurd (true-not-false false h refl); no-stands = λ h. bound-missing n ws a b la lb e }
 
   -- the bounds of the types of `word` that are not in `left` with all types of `word` were found
   pub record Paired (word left : ℕ) : Type 0 where
     pub part : (b : ℕ) → b < 64 → bit left b ≡ true → bit word b ≡ true
-    pub done : (a b : ℕ) → a < 64 → b < 64 → bit word a ≡ true → bit word b ≡ true → bit left a ≡ false → found (wordBound n ws a b) ≡ true
+    pub done : (a b : ℕ) → a < 64 → b < 64 → bit word a ≡ true → bit word b ≡ true → bit left a ≡ false → found (word_bound n ws a b) ≡ true
 
   pub paired-begin : (word : ℕ) → Paired word word
   paired-begin word = record { part = λ b l e. e; done = λ a b la lb e f g. absurd (true-not-false (bit word a) e g) }
@@ -226,15 +226,15 @@ module _ (n : ℕ) (ws : List ℕ) where
         part = λ k l f. p.part k l (and_left (bit left k) (not (eqb k a)) (sym (cleared-bit left a k) ∙ f));
         done = λ x y lx ly ex ey g.
             ⊎_elim (λ (e : bit left x ≡ false). p.done x y lx ly ex ey e)
-            (λ (q : x ≡ a). ap (λ (j : ℕ). found (wordBound n ws j y)) q ∙ go y ly ey (bit (without left (2 ^ a)) y) refl)
+            (λ (q : x ≡ a). ap (λ (j : ℕ). found (word_bound n ws j y)) q ∙ go y ly ey (bit (without left (2 ^ a)) y) refl)
             (gone left a x g);
       }
     where
-      go : (y : ℕ) → y < 64 → bit word y ≡ true → (b : Bool) → bit (without left (2 ^ a)) y ≡ b → found (wordBound n ws a y) ≡ true
+      go : (y : ℕ) → y < 64 → bit word y ≡ true → (b : Bool) → bit (without left (2 ^ a)) y ≡ b → found (word_bound n ws a y) ≡ true
       go y ly ey true e = w.yes-stands refl y ly e
       go y ly ey false e =
           ⊎_elim (λ (f : bit left y ≡ false). ap found (bound-turned n ws a y) ∙ p.done y a ly la ey ea f)
-          (λ (q : y ≡ a). ap (λ (j : ℕ). found (wordBound n ws a j)) q ∙ own-bound n ws a ln)
+          (λ (q : y ≡ a). ap (λ (j : ℕ). found (word_bound n ws a j)) q ∙ own-bound n ws a ln)
           (gone left a y e)
 
   pub paired-end : (word left : ℕ) → left ≡ 0 → Paired word left → BoundsWithin n ws word true
@@ -244,7 +244,7 @@ module _ (n : ℕ) (ws : List ℕ) where
         no-stands = λ h. absurd (true-not-false true refl h);
       }
 
-  pub paired-fails : (word : ℕ) → allFound n (wordBound n ws) ≡ false → BoundsWithin n ws word false
+  pub paired-fails : (word : ℕ) → all_found n (word_bound n ws) ≡ false → BoundsWithin n ws word false
   paired-fails word e = record { yes-stands = λ h. absurd (true-not-false false h refl); no-stands = λ h. e }
 
   -- what a type covers are types
@@ -259,7 +259,7 @@ module _ (n : ℕ) (ws : List ℕ) where
   covers_more k w h c b = below_more (λ z. (w : ℕ) × Covered n ws z w × BoundsWithin n ws w true) k h (w, c, b)
 
   -- if every two types that one type covers have a bound, every two types have one
-  pub covers-bounded : n ≤ 64 → Lower n ws → (k : ℕ) → n ≤ k → k ≤ n → CoversBounded k → true ≡ allFound n (wordBound n ws)
+  pub covers-bounded : n ≤ 64 → Lower n ws → (k : ℕ) → n ≤ k → k ≤ n → CoversBounded k → true ≡ all_found n (word_bound n ws)
   covers-bounded few low k l s h = go (below_or_not 0 n) where
     wider : (z : ℕ) → z < n → z < k
     wider z r = omega arith
@@ -273,11 +273,11 @@ module _ (n : ℕ) (ws : List ℕ) where
     covers z (inr r) lz = absurd (omega arith)
 
     pairs : (z : ℕ) (d : (z < n) ⊎ (n ≤ z)) (a b : ℕ) → z < n → a < 64 → b < 64 → bit (chosen z d) a ≡ true → bit (chosen z d) b ≡ true
-        → found (wordBound n ws a b) ≡ true
+        → found (word_bound n ws a b) ≡ true
     pairs z (inl r) a b lz la lb = (h z (wider z r)).2.yes-stands refl a b la lb
     pairs z (inr r) a b lz la lb = absurd (omega arith)
 
-    go : (0 < n) ⊎ (n ≤ 0) → true ≡ allFound n (wordBound n ws)
+    go : (0 < n) ⊎ (n ≤ 0) → true ≡ all_found n (word_bound n ws)
     go (inl r) =
         sym (all_meet n ws few low (λ z. chosen z (below_or_not z n)) (λ z. covers z (below_or_not z n)) (λ z. pairs z (below_or_not z n)) r)
     go (inr r) = sym (all_none n ws (omega arith))

@@ -21,17 +21,17 @@ use Rattle.lattice.specs.Words.{
   without,
   strictly,
   part_of,
-  pairOrdered,
-  pairsOrdered,
-  rowInside,
+  pair_ordered,
+  pairs_ordered,
+  row_inside,
   row_set,
-  rowOrdered,
+  row_ordered,
   Owned,
   Spans,
   Spanned,
   CoversOf,
-  wordBound,
-  allFound,
+  word_bound,
+  all_found,
   Sided,
   Inside,
   Lower,
@@ -56,8 +56,8 @@ use Rattle.acceptance.proofs.Covering.{
 -- of a type j strictly below i: the pair is ordered where what is below j is strictly below i
 pair-lower : (ws : List ℕ) (i j : ℕ)
     → implies (bit (strictly ws i) j) (part_of (get_or ws j 0) (strictly ws i))
-    ≡ implies (bit (get_or ws i 0) j) (pairOrdered ws i j)
-unfolding pairOrdered
+    ≡ implies (bit (get_or ws i 0) j) (pair_ordered ws i j)
+unfolding pair_ordered
 pair-lower ws i j = go (eqb j i) refl where
   apart-only : (x b : Bool) → b ≡ false → not x ≡ implies x b
   apart-only true b e = sym e
@@ -86,7 +86,7 @@ pair-lower ws i j = go (eqb j i) refl where
       ap (λ (b : Bool). part_of (get_or ws j 0) (get_or ws i 0) && b) (apart-only (bit (get_or ws j 0) i) (eqb i j) apart))
 
 -- so it is of all pairs of i
-pairs-lower : (ws : List ℕ) (i : ℕ) → every 64 (λ j. implies (bit (strictly ws i) j) (part_of (get_or ws j 0) (strictly ws i))) ≡ pairsOrdered ws i
+pairs-lower : (ws : List ℕ) (i : ℕ) → every 64 (λ j. implies (bit (strictly ws i) j) (part_of (get_or ws j 0) (strictly ws i))) ≡ pairs_ordered ws i
 pairs-lower ws i = every-same _ _ 64 (λ j l. pair-lower ws i j)
 
 -- The types taken so far: every type strictly below i is left, or below one of them.
@@ -178,7 +178,7 @@ module _ {n : ℕ} {ws : List ℕ} (owned : Owned n ws) (spans : (i : ℕ) → i
           (and_left (bit (get_or ws c 0) j) (not (eqb j c))
           (sym (cleared-bit (get_or ws c 0) c j) ∙ part-bit (get_or ws x 0) (strictly ws c) below j f))
 
-  pairs-hold : (i : ℕ) → i < n → pairsOrdered ws i ≡ true
+  pairs-hold : (i : ℕ) → i < n → pairs_ordered ws i ≡ true
   pairs-hold i li =
       sym (pairs-lower ws i) ∙
       every-all _ 64 λ j l. implies-from (bit (strictly ws i) j) (part_of (get_or ws j 0) (strictly ws i)) (lower-part (suc (get_or ws i 0)) i j li (omega arith))
@@ -205,8 +205,8 @@ module _ (n : ℕ) (ws : List ℕ) (some : 0 < n) where
     set-greatest : bit (get_or ws (n - 1) 0) i ≡ true
     set-greatest = and_right (leb (get_or ws i 0 / 2 ^ (n - 1)) 1 && bit (get_or ws i 0) i && bit (get_or ws i 0) 0) _ (every-at _ n i set l)
 
-  row_inside : every n (row_set n ws) ≡ true → (i : ℕ) → i < n → rowInside (get_or ws (n - 1) 0) (get_or ws i 0) i ≡ true
-  row_inside set i l =
+  row_inside_lem : every n (row_set n ws) ≡ true → (i : ℕ) → i < n → row_inside (get_or ws (n - 1) 0) (get_or ws i 0) i ≡ true
+  row_inside_lem set i l =
       true-both (part_of (get_or ws i 0) (get_or ws (n - 1) 0) && bit (get_or ws i 0) i) (bit (get_or ws i 0) 0)
       (true-both (part_of (get_or ws i 0) (get_or ws (n - 1) 0)) (bit (get_or ws i 0) i)
       (part-from (get_or ws i 0) (get_or ws (n - 1) 0) λ j e. set-greatest set j (short-inside n (get_or ws i 0) j some (set-short set i l) e))
@@ -214,7 +214,7 @@ module _ (n : ℕ) (ws : List ℕ) (some : 0 < n) where
       (set-least set i l)
 
   pub rows-set : leb (get_or ws (n - 1) 0 / 2 ^ (n - 1)) 1 ≡ true
-      → ((i : ℕ) → i < n → rowInside (get_or ws (n - 1) 0) (get_or ws i 0) i ≡ true) → every n (row_set n ws) ≡ true
+      → ((i : ℕ) → i < n → row_inside (get_or ws (n - 1) 0) (get_or ws i 0) i ≡ true) → every n (row_set n ws) ≡ true
   rows-set short inside =
       every-all _ n λ i l.
       let all : ℕ = get_or ws (n - 1) 0 in
@@ -235,8 +235,8 @@ module _ (n : ℕ) (ws : List ℕ) (some : 0 < n) where
   pub top-fails : leb (get_or ws (n - 1) 0 / 2 ^ (n - 1)) 1 ≡ false → every n (row_set n ws) ≡ false
   top-fails e = not-true-false (every n (row_set n ws)) λ h. true-not-false _ (set-short h (n - 1) (omega arith)) e
 
-  pub row-fails : (i : ℕ) → i < n → rowInside (get_or ws (n - 1) 0) (get_or ws i 0) i ≡ false → every n (row_set n ws) ≡ false
-  row-fails i l e = not-true-false (every n (row_set n ws)) λ h. true-not-false _ (row_inside h i l) e
+  pub row-fails : (i : ℕ) → i < n → row_inside (get_or ws (n - 1) 0) (get_or ws i 0) i ≡ false → every n (row_set n ws) ≡ false
+  row-fails i l e = not-true-false (every n (row_set n ws)) λ h. true-not-false _ (row_inside_lem h i l) e
 
 module _ (n : ℕ) (ws : List ℕ) where
   -- rows that are set own their types
@@ -248,30 +248,30 @@ module _ (n : ℕ) (ws : List ℕ) where
       }
 
   -- the answer for all rows
-  pub rows-hold : every n (row_set n ws) ≡ true → ((i : ℕ) → i < n → Spanned ws i) → every n (rowOrdered n ws) ≡ true
-  unfolding rowOrdered
+  pub rows-hold : every n (row_set n ws) ≡ true → ((i : ℕ) → i < n → Spanned ws i) → every n (row_ordered n ws) ≡ true
+  unfolding row_ordered
   rows-hold h spans =
-      every-all _ n λ i l. true-both (row_set n ws i) (pairsOrdered ws i) (every-at _ n i h l) (pairs-hold (rows-owned h) spans i l)
+      every-all _ n λ i l. true-both (row_set n ws i) (pairs_ordered ws i) (every-at _ n i h l) (pairs-hold (rows-owned h) spans i l)
 
-  pub rows-fail : (i : ℕ) → i < n → pairsOrdered ws i ≡ false → every n (rowOrdered n ws) ≡ false
-  unfolding rowOrdered
+  pub rows-fail : (i : ℕ) → i < n → pairs_ordered ws i ≡ false → every n (row_ordered n ws) ≡ false
+  unfolding row_ordered
   rows-fail i l e = every-fails _ n i l (none (row_set n ws i) e)
     where
       none : (a : Bool) {b : Bool} → b ≡ false → a && b ≡ false
       none true e = e
       none false e = refl
 
-  pub rows-unset : every n (row_set n ws) ≡ false → every n (rowOrdered n ws) ≡ false
-  unfolding rowOrdered
+  pub rows-unset : every n (row_set n ws) ≡ false → every n (row_ordered n ws) ≡ false
+  unfolding row_ordered
   rows-unset e =
-      not-true-false (every n (rowOrdered n ws)) λ h.
-      true-not-false (every n (row_set n ws)) (every-all _ n λ i l. and_left (row_set n ws i) (pairsOrdered ws i) (every-at _ n i h l)) e
+      not-true-false (every n (row_ordered n ws)) λ h.
+      true-not-false (every n (row_set n ws)) (every-all _ n λ i l. and_left (row_set n ws i) (pairs_ordered ws i) (every-at _ n i h l)) e
 
   -- the first k rows are spanned; `all` tells whether every two types that one of the first k types covers have a bound
   pub record Judging (k : ℕ) (all : Bool) : Type 0 where
     pub spans : (i : ℕ) → i < k → Spanned ws i
     pub yes-stands : all ≡ true → Lower n ws → CoversBounded n ws k
-    pub no-stands : all ≡ false → Lower n ws → allFound n (wordBound n ws) ≡ false
+    pub no-stands : all ≡ false → Lower n ws → all_found n (word_bound n ws) ≡ false
 
   pub judge-begin : Judging 0 true
   judge-begin =
@@ -303,8 +303,8 @@ module _ (n : ℕ) (ws : List ℕ) where
           no-stands = j.no-stands;
         }
 
-  pub judge-end : {k : ℕ} {all : Bool} → n ≤ 64 → n ≤ k → k ≤ n → Judging k all → Lower n ws → all ≡ allFound n (wordBound n ws)
+  pub judge-end : {k : ℕ} {all : Bool} → n ≤ 64 → n ≤ k → k ≤ n → Judging k all → Lower n ws → all ≡ all_found n (word_bound n ws)
   judge-end {k} {all} few l r j low = go all refl where
-    go : (b : Bool) → all ≡ b → all ≡ allFound n (wordBound n ws)
+    go : (b : Bool) → all ≡ b → all ≡ all_found n (word_bound n ws)
     go true e = e ∙ covers-bounded n ws few low k l r (j.yes-stands e low)
     go false e = e ∙ sym (j.no-stands e low)

@@ -7,10 +7,10 @@ use Rattle.acceptance.specs.declared.Opened.TheVariants.{Accepted, Refused}
 use Rattle.lattice.specs.Table.{sized, ordered, bounded}
 
 -- the number of a refusal
-abbrev pub tableNumber : TableFault → ℕ
-tableNumber Size = 1
-tableNumber Order = 2
-tableNumber Bounds = 3
+abbrev pub table_number : TableFault → ℕ
+table_number Size = 1
+table_number Order = 2
+table_number Bounds = 3
 
 -- the answer for a table: "Checks run: 1, 2, 3"
 unfoldable pub opened : ℕ → List ℕ → Opened

@@ -1,6 +1,6 @@
 // Tests whether every two types of an order have a meet. It is enough to test every two types that one type covers.
 ghost use Rattle.std.specs.Prelude.{◌≡◌, ℕ, ◌<◌, ◌≤◌};
-ghost use Rattle.lattice.specs.Words.{allFound, wordBound, Sided, Inside, Lower, BoundsWith, BoundsWithin};
+ghost use Rattle.lattice.specs.Words.{all_found, word_bound, Sided, Inside, Lower, BoundsWith, BoundsWithin};
 
 // Whether type a has a meet with every type of a word.
 fn is_bounded_with(down: &[u64; 64], a: usize, word: u64) -> bool
@@ -36,7 +36,7 @@ pub fn are_bounded_within(down: &[u64; 64], word: u64) -> bool
 // Whether every two types have a meet.
 pub fn are_bounded(n: usize, down: &[u64; 64]) -> bool
     requires { (n ≤ 64) × Lower n down.now }
-    ensures { result ≡ allFound n (wordBound n down.now) }
+    ensures { result ≡ all_found n (word_bound n down.now) }
 {
     let mut i = 0;
     while i < n {

@@ -2,7 +2,7 @@
 // n - 1 the greatest.
 ghost use Rattle.std.specs.Prelude.{◌≡◌, ◌<◌, ◌≤◌};
 ghost use Rattle.lattice.specs.Table.{every, sized};
-ghost use Rattle.lattice.specs.Words.{rowInside, row_set, rowOrdered, Owned, CoversOf};
+ghost use Rattle.lattice.specs.Words.{row_inside, row_set, row_ordered, Owned, CoversOf};
 
 // Whether n is 2 to 64 and the table has 8 bytes for each type.
 pub fn is_sized(n: usize, table: &[u8]) -> bool
@@ -20,7 +20,7 @@ pub fn is_sized(n: usize, table: &[u8]) -> bool
 // Whether a row lies inside `all` and has bit i and bit 0.
 fn is_row_inside(all: u64, row: u64, i: usize) -> bool
     requires { i < 64 }
-    ensures { result ≡ rowInside all row i }
+    ensures { result ≡ row_inside all row i }
 {
     if row & all != row {
         return false;
@@ -93,7 +93,7 @@ pub fn covers_of(n: usize, down: &[u64; 64], i: usize) -> Covers
 // Whether the rows pass all the tests of refusal 2.
 pub fn is_ordered(n: usize, down: &[u64; 64]) -> bool
     requires { n ≤ 64 }
-    ensures { result ≡ every n (rowOrdered n down.now) }
+    ensures { result ≡ every n (row_ordered n down.now) }
 {
     if !are_rows_set(n, down) {
         return false;

@@ -10,8 +10,8 @@ use lib.ListN.{length, get_or, set, length-set, length-replicate, get_or-replica
 use lib.Seq.{get_or-set_same, get_or-set_other}
 use lib.Dec.{leb, eqb}
 use borrow.Author.Tests.{le-leb, lt-leb, eqb-true, eqb-false}
-use Rattle.lattice.specs.Table.{every, implies, found, cell, boundRow, overwrite}
-use Rattle.lattice.specs.Words.{wordBound, allFound}
+use Rattle.lattice.specs.Table.{every, implies, found, cell, bound_row, overwrite}
+use Rattle.lattice.specs.Words.{word_bound, all_found}
 use Rattle.bounds.specs.Cells.{Columns}
 use Rattle.lattice.proofs.Every.{every-all, every-end, below_suc}
 use Rattle.lattice.proofs.Rows.{row_made}
@@ -22,14 +22,14 @@ abbrev write : List (List ℕ) → ℕ → ℕ → ℕ → List (List ℕ)
 write rows i j v = set rows i (set (get_or rows i []) j v)
 
 -- a row before anything is written
-abbrev zeroRow : List ℕ
-zeroRow = replicate 64 0
+abbrev zero_row : List ℕ
+zero_row = replicate 64 0
 
 -- Row a and column a are being filled: row a holds the bounds with the types before b, column a those with the types from a to b - 1.
 pub record Filling (n : ℕ) (ws : List ℕ) (rows : List (List ℕ)) (a b : ℕ) : Type 0 where
   pub columns : Columns n ws rows a
-  pub row : (j : ℕ) → j < b → get_or (get_or rows a []) j 0 ≡ cell (wordBound n ws a j)
-  pub column : (i : ℕ) → a ≤ i → i < b → get_or (get_or rows i []) a 0 ≡ cell (wordBound n ws i a)
+  pub row : (j : ℕ) → j < b → get_or (get_or rows a []) j 0 ≡ cell (word_bound n ws a j)
+  pub column : (i : ℕ) → a ≤ i → i < b → get_or (get_or rows i []) a 0 ≡ cell (word_bound n ws i a)
 
 module _ (rows : List (List ℕ)) (x y v : ℕ) (tall : length rows ≡ 64) (wide : (i : ℕ) → i < 64 → length (get_or rows i []) ≡ 64)
     (lx : x < 64) (ly : y < 64) where
@@ -90,7 +90,7 @@ module _ (n : ℕ) (ws : List ℕ) where
   }
 
   -- one bound more in both its cells
-  pub filling-more : (rows : List (List ℕ)) (a b v : ℕ) → n ≤ 64 → a ≤ b → b < n → v ≡ cell (wordBound n ws a b) → Filling n ws rows a b
+  pub filling-more : (rows : List (List ℕ)) (a b v : ℕ) → n ≤ 64 → a ≤ b → b < n → v ≡ cell (word_bound n ws a b) → Filling n ws rows a b
       → Filling n ws (write (write rows a b v) b a v) a (b + 1)
   filling-more rows a b v few la lb e h =
       let sa : a < 64 = omega arith in
@@ -100,18 +100,18 @@ module _ (n : ℕ) (ws : List ℕ) where
         columns = write-columns (write rows a b v) a b a v few lb (omega arith) (omega arith) one;
         row =
             λ j l.
-            write-holds (write rows a b v) b a v one.tall one.wide sb sa a j (cell (wordBound n ws a j))
-            (λ q f. let g : b ≡ j = omega arith in e ∙ ap (λ (k : ℕ). cell (wordBound n ws a k)) g)
+            write-holds (write rows a b v) b a v one.tall one.wide sb sa a j (cell (word_bound n ws a j))
+            (λ q f. let g : b ≡ j = omega arith in e ∙ ap (λ (k : ℕ). cell (word_bound n ws a k)) g)
             (λ ne.
-            write-holds rows a b v h.columns.tall h.columns.wide sa sb a j (cell (wordBound n ws a j))
-            (λ q f. e ∙ ap (λ (k : ℕ). cell (wordBound n ws a k)) (sym f))
+            write-holds rows a b v h.columns.tall h.columns.wide sa sb a j (cell (word_bound n ws a j))
+            (λ q f. e ∙ ap (λ (k : ℕ). cell (word_bound n ws a k)) (sym f))
             (λ nf. h.row j (apart j l (nf refl))));
         column =
             λ i r l.
-            write-holds (write rows a b v) b a v one.tall one.wide sb sa i a (cell (wordBound n ws i a))
-            (λ q f. e ∙ ap cell (bound-turned n ws a b) ∙ ap (λ (k : ℕ). cell (wordBound n ws k a)) (sym q))
+            write-holds (write rows a b v) b a v one.tall one.wide sb sa i a (cell (word_bound n ws i a))
+            (λ q f. e ∙ ap cell (bound-turned n ws a b) ∙ ap (λ (k : ℕ). cell (word_bound n ws k a)) (sym q))
             (λ ne.
-            write-holds rows a b v h.columns.tall h.columns.wide sa sb i a (cell (wordBound n ws i a))
+            write-holds rows a b v h.columns.tall h.columns.wide sa sb i a (cell (word_bound n ws i a))
             (λ q f. absurd (ne (q ∙ f) refl))
             (λ nf. h.column i r (apart i l (λ q. ne q refl))));
       }
@@ -121,16 +121,16 @@ module _ (n : ℕ) (ws : List ℕ) where
 
   -- row a and column a are done
   pub filling-ends : (rows : List (List ℕ)) (a b : ℕ) → n ≤ 64 → a < n → b ≤ n → n ≤ b → Filling n ws rows a b
-      → (get_or rows a [] ≡ boundRow n (wordBound n ws) a) × Columns n ws rows (a + 1)
+      → (get_or rows a [] ≡ bound_row n (word_bound n ws) a) × Columns n ws rows (a + 1)
   filling-ends rows a b few la l s h = (
-    row_made n (wordBound n ws) a (get_or rows a []) (h.columns.wide a (omega arith)) (λ j r. h.row j (omega arith))
+    row_made n (word_bound n ws) a (get_or rows a []) (h.columns.wide a (omega arith)) (λ j r. h.row j (omega arith))
         (λ j r q. h.columns.rest a j la r q),
     record {
       tall = h.columns.tall;
       wide = h.columns.wide;
       before =
           λ i j r k q.
-          below_suc {P = get_or (get_or rows i []) j 0 ≡ cell (wordBound n ws i j)} (omega arith)
+          below_suc {P = get_or (get_or rows i []) j 0 ≡ cell (word_bound n ws i j)} (omega arith)
           (λ (f : j ≡ a). rw f (h.column i (omega arith) (omega arith)))
           (λ p. h.columns.before i j (omega arith) k p);
       rest = h.columns.rest;
@@ -138,15 +138,15 @@ module _ (n : ℕ) (ws : List ℕ) where
   )
 
   -- the zeros at the start hold no column yet
-  pub columns-begin : n ≤ 64 → Columns n ws (replicate 64 zeroRow) 0
+  pub columns-begin : n ≤ 64 → Columns n ws (replicate 64 zero_row) 0
   columns-begin few = record {
-    tall = length-replicate {A = List ℕ} 64 zeroRow;
+    tall = length-replicate {A = List ℕ} 64 zero_row;
     wide = λ i l. ap (λ (r : List ℕ). length r) (zeros i l) ∙ length-replicate {A = ℕ} 64 0;
     before = λ i j r l s. absurd (not-suc-le-zero s);
     rest = λ i j l r s. ap (λ (r : List ℕ). get_or r j 0) (zeros i (omega arith)) ∙ get_or-replicate {A = ℕ} 64 j 0 0 s;
   } where
-    zeros : (i : ℕ) → i < 64 → get_or (replicate 64 zeroRow) i [] ≡ zeroRow
-    zeros i l = get_or-replicate {A = List ℕ} 64 i zeroRow [] l
+    zeros : (i : ℕ) → i < 64 → get_or (replicate 64 zero_row) i [] ≡ zero_row
+    zeros i l = get_or-replicate {A = List ℕ} 64 i zero_row [] l
 
 -- no type before a is tested with a; those from a on are
 pub none-tested : (a : ℕ) (p : ℕ → Bool) → true ≡ every a (λ k. implies (leb a k) (p k))
@@ -157,8 +157,8 @@ is-tested a b p q l e = rw (le-leb a b l, e)
 
 -- the end of the filling
 pub fill_done : (n : ℕ) (ws : List ℕ) (k : ℕ) (r : Bool) (table rows : List (List ℕ)) → k ≤ n → n ≤ k
-    → r ≡ every k (λ a. every n (λ b. implies (leb a b) (found (wordBound n ws a b)))) → table ≡ overwrite k (boundRow n (wordBound n ws)) rows
-    → (r ≡ allFound n (wordBound n ws)) × (table ≡ overwrite n (boundRow n (wordBound n ws)) rows)
+    → r ≡ every k (λ a. every n (λ b. implies (leb a b) (found (word_bound n ws a b)))) → table ≡ overwrite k (bound_row n (word_bound n ws)) rows
+    → (r ≡ all_found n (word_bound n ws)) × (table ≡ overwrite n (bound_row n (word_bound n ws)) rows)
 fill_done n ws k r table rows l s e f =
     let q : k ≡ n = omega arith in
-    (every-end _ k n r l s e ∙ onward-found n ws, f ∙ ap (λ (m : ℕ). overwrite m (boundRow n (wordBound n ws)) rows) q)
+    (every-end _ k n r l s e ∙ onward-found n ws, f ∙ ap (λ (m : ℕ). overwrite m (bound_row n (word_bound n ws)) rows) q)

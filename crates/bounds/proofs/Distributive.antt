@@ -12,10 +12,10 @@ use lib.Dec.{eqb}
 use lib.Bits.{bit_and, bit_or, and_lt, or_lt}
 use borrow.Author.Tests.{eq-eqb, ne_eqb, eqb-true, not-true}
 use Rattle.graphs.proofs.Search.{same_test, not-true-false, true-both, either_true, true-left, true-right}
-use Rattle.lattice.specs.Table.{every, implies, below, foundAs, accepted, meet, join, cell, admits}
+use Rattle.lattice.specs.Table.{every, implies, below, found_as, accepted, meet, join, cell, admits}
 use Rattle.lattice.specs.Words.{Words, bit, without}
-use Rattle.bounds.specs.Primes.{wordIrreducible, wordPrime}
-use Rattle.bounds.specs.Sets.{distributive, smaller, irreducible, setOf}
+use Rattle.bounds.specs.Primes.{word_irreducible, word_prime}
+use Rattle.bounds.specs.Sets.{distributive, smaller, irreducible, set_of}
 use Rattle.lattice.proofs.Every.{and_left, and_right, implies-at, implies-from, every-at, every-all, not-false-true, true-not-false, below_suc}
 use Rattle.lattice.proofs.WordLaws.{word_below, word_same, word_and}
 use Rattle.lattice.proofs.Bits.{bit_word, bits-same, and-bit, or-bit}
@@ -83,20 +83,20 @@ module _ (n : ℕ) (t : List ℕ) (ok : accepted n t ≡ true) where
   irreducible-covers : (j : ℕ) → j < n → irreducible n t j ≡ true → (k : ℕ) × (k < n) × Covers n t j k
   unfolding irreducible
   irreducible-covers j l h =
-      let pairs : every n (λ a. every n λ b. implies (smaller t a j && smaller t b j) (not (foundAs j (join n t a b)))) ≡ true =
+      let pairs : every n (λ a. every n λ b. implies (smaller t a j && smaller t b j) (not (found_as j (join n t a b)))) ≡ true =
       and_right (not (eqb j 0)) _ h in
       let least : smaller t 0 j ≡ true =
       true-both (below t 0 j) (not (eqb 0 j)) (zero-least n t ok j l)
       (ap not (ne_eqb 0 j λ q. true-not-false (eqb j 0) (eq-eqb j 0 (sym q)) (not-true (eqb j 0) (and_left (not (eqb j 0)) _ h)))) in
       let joins : (x y z : ℕ) → x < n → y < n → Join n t x y z → smaller t x j ≡ true → smaller t y j ≡ true → smaller t z j ≡ true =
       λ x y z lx ly r sx sy.
-      let other : not (foundAs j (join n t x y)) ≡ true =
-      implies-at (smaller t x j && smaller t y j) (not (foundAs j (join n t x y)))
-      (every-at (λ b. implies (smaller t x j && smaller t b j) (not (foundAs j (join n t x b)))) n y (every-at _ n x pairs lx) ly)
+      let other : not (found_as j (join n t x y)) ≡ true =
+      implies-at (smaller t x j && smaller t y j) (not (found_as j (join n t x y)))
+      (every-at (λ b. implies (smaller t x j && smaller t b j) (not (found_as j (join n t x b)))) n y (every-at _ n x pairs lx) ly)
       (true-both (smaller t x j) (smaller t y j) sx sy) in
       true-both (below t z j) (not (eqb z j))
       (r.least j l (and_left (below t x j) (not (eqb x j)) sx) (and_left (below t y j) (not (eqb y j)) sy))
-      (ap (λ o. not (foundAs j o)) (sym r.is) ∙ other) in
+      (ap (λ o. not (found_as j o)) (sym r.is) ∙ other) in
       let (k, lk, less, most) = greatest-passing (λ d. smaller t d j) least joins in (
         k,
         lk,
@@ -114,11 +114,11 @@ module _ (n : ℕ) (t : List ℕ) (ok : accepted n t ≡ true) where
       (sym (subst (λ (i : ℕ). below t 0 k ≡ smaller t 0 i) q (covers 0 (zero-type n t ok))) ∙ zero-least n t ok k lk)))
       (every-all _ n λ a la.
       every-all _ n λ b lb.
-      implies-from (smaller t a j && smaller t b j) (not (foundAs j (join n t a b))) λ e.
+      implies-from (smaller t a j && smaller t b j) (not (found_as j (join n t a b))) λ e.
       let r : (m : ℕ) × Join n t a b m = join-exists n t ok a b la lb in
       let under : below t r.0 k ≡ true =
       r.1.least k lk (covers a la ∙ and_left (smaller t a j) (smaller t b j) e) (covers b lb ∙ and_right (smaller t a j) (smaller t b j) e) in
-      ap (λ o. not (foundAs j o)) r.1.is ∙
+      ap (λ o. not (found_as j o)) r.1.is ∙
       and_right (below t r.0 j) (not (eqb r.0 j)) (sym (covers r.0 r.1.type) ∙ under))
 
   -- a type is below another where its irreducible types are
@@ -129,26 +129,26 @@ module _ (n : ℕ) (t : List ℕ) (ok : accepted n t ≡ true) where
       let (j, l, ja, jb, k, lk, covers) = least-outside n t ok a b la lb f in
       true-not-false (below t j b) (h j l (covers-irreducible j k l lk covers) ja) jb
 
-  pub set-bit : (a j : ℕ) → j < n → bit (setOf n t a) j ≡ (irreducible n t j && below t j a)
-  unfolding setOf
+  pub set-bit : (a j : ℕ) → j < n → bit (set_of n t a) j ≡ (irreducible n t j && below t j a)
+  unfolding set_of
   set-bit a j l = bit_word n (λ j. irreducible n t j && below t j a) j l
 
-  set-small : (a : ℕ) → setOf n t a < 2 ^ n
-  unfolding setOf
+  set-small : (a : ℕ) → set_of n t a < 2 ^ n
+  unfolding set_of
   set-small a = word_below n (λ j. irreducible n t j && below t j a)
 
   -- equal sets are of equal types
-  pub sets-apart : (a b : ℕ) → a < n → b < n → setOf n t a ≡ setOf n t b → a ≡ b
+  pub sets-apart : (a b : ℕ) → a < n → b < n → set_of n t a ≡ set_of n t b → a ≡ b
   sets-apart a b la lb e = below-antisymmetric n t ok a b la lb (one a b la lb e) (one b a lb la (sym e)) where
-    one : (a b : ℕ) → a < n → b < n → setOf n t a ≡ setOf n t b → below t a b ≡ true
+    one : (a b : ℕ) → a < n → b < n → set_of n t a ≡ set_of n t b → below t a b ≡ true
     one a b la lb e =
         below-by-sets a b la lb λ j l i f.
         and_right (irreducible n t j) (below t j b)
         (sym (set-bit b j l) ∙ ap (λ (w : ℕ). bit w j) (sym e) ∙ set-bit a j l ∙ true-both (irreducible n t j) (below t j a) i f)
 
   -- the overlap of two sets is the set of the meet
-  overlap : (a b m : ℕ) → a < n → b < n → Meet n t a b m → bit_and (setOf n t a) (setOf n t b) ≡ setOf n t m
-  unfolding setOf
+  overlap : (a b m : ℕ) → a < n → b < n → Meet n t a b m → bit_and (set_of n t a) (set_of n t b) ≡ set_of n t m
+  unfolding set_of
   overlap a b m la lb k =
       word_and n (λ j. irreducible n t j && below t j a) (λ j. irreducible n t j && below t j b) ∙
       word_same n _ (λ j. irreducible n t j && below t j m) λ j l.
@@ -163,10 +163,10 @@ module _ (n : ℕ) (t : List ℕ) (ok : accepted n t ≡ true) where
       spread true x y z e = e
       spread false x y z e = refl
 
-  pub sets-meet : (a b : ℕ) → a < n → b < n → bit_and (setOf n t a) (setOf n t b) ≡ setOf n t (cell (meet n t a b))
+  pub sets-meet : (a b : ℕ) → a < n → b < n → bit_and (set_of n t a) (set_of n t b) ≡ set_of n t (cell (meet n t a b))
   sets-meet a b la lb =
       let r : (m : ℕ) × Meet n t a b m = meet-exists n t ok a b la lb in
-      overlap a b r.0 la lb r.1 ∙ ap (λ o. setOf n t (cell o)) (sym r.1.is)
+      overlap a b r.0 la lb r.1 ∙ ap (λ o. set_of n t (cell o)) (sym r.1.is)
 
   -- every irreducible type is prime
   module _ (prime : (j : ℕ) → j < n → Primes n t j) where
@@ -183,11 +183,11 @@ module _ (n : ℕ) (t : List ℕ) (ok : accepted n t ≡ true) where
         true-not-false (below t j c) e
         (not-true (below t j c) (sym (s.2 c k.type) ∙ k.least s.0 s.1 (none a la ja) (none b lb jb)))
 
-    union : (a b c : ℕ) → a < n → b < n → Join n t a b c → bit_or (setOf n t a) (setOf n t b) ≡ setOf n t c
+    union : (a b c : ℕ) → a < n → b < n → Join n t a b c → bit_or (set_of n t a) (set_of n t b) ≡ set_of n t c
     union a b c la lb k =
-        bits-same n (bit_or (setOf n t a) (setOf n t b)) (setOf n t c) (or_lt n (setOf n t a) (setOf n t b) (set-small a) (set-small b))
+        bits-same n (bit_or (set_of n t a) (set_of n t b)) (set_of n t c) (or_lt n (set_of n t a) (set_of n t b) (set-small a) (set-small b))
         (set-small c) λ j l.
-        or-bit (setOf n t a) (setOf n t b) j ∙ ap₂ (λ (x y : Bool). x || y) (set-bit a j l) (set-bit b j l) ∙
+        or-bit (set_of n t a) (set_of n t b) j ∙ ap₂ (λ (x y : Bool). x || y) (set-bit a j l) (set-bit b j l) ∙
         spread (irreducible n t j) (below t j a) (below t j b) (below t j c)
         (λ i.
         same_test (below t j a || below t j b) (below t j c)
@@ -215,8 +215,8 @@ module _ (n : ℕ) (t : List ℕ) (ok : accepted n t ≡ true) where
         let same : l.0 ≡ r.0 =
         sets-apart l.0 r.0 l.1.type r.1.type
         (sym (overlap a d.0 l.0 la d.1.type l.1) ∙
-        ap (bit_and (setOf n t a)) (sym (union b c d.0 lb lc d.1)) ∙
-        and-over-or n (setOf n t a) (setOf n t b) (setOf n t c) (set-small a) (set-small b) (set-small c) ∙
+        ap (bit_and (set_of n t a)) (sym (union b c d.0 lb lc d.1)) ∙
+        and-over-or n (set_of n t a) (set_of n t b) (set_of n t c) (set-small a) (set-small b) (set-small c) ∙
         ap₂ bit_or (overlap a b x.0 la lb x.1) (overlap a c y.0 la lc y.1) ∙
         union x.0 y.0 r.0 x.1.type y.1.type r.1) in
         rw (d.1.is, x.1.is, y.1.is, l.1.is, r.1.is) (eq-eqb l.0 r.0 same)
@@ -278,16 +278,16 @@ module _ (n : ℕ) (t : List ℕ) (ok : accepted n t ≡ true) where
               (most d ld),
         )
 
-    pub sets-join : (a b : ℕ) → a < n → b < n → bit_or (setOf n t a) (setOf n t b) ≡ setOf n t (cell (join n t a b))
+    pub sets-join : (a b : ℕ) → a < n → b < n → bit_or (set_of n t a) (set_of n t b) ≡ set_of n t (cell (join n t a b))
     sets-join a b la lb =
         let r : (m : ℕ) × Join n t a b m = join-exists n t ok a b la lb in
-        union spread-primes a b r.0 la lb r.1 ∙ ap (λ o. setOf n t (cell o)) (sym r.1.is)
+        union spread-primes a b r.0 la lb r.1 ∙ ap (λ o. set_of n t (cell o)) (sym r.1.is)
 
   module _ (ws : List ℕ) (words : Words n t false ws) where
     -- the test on words decides whether the table is distributive
-    pub primes-distributive : every n (wordPrime n ws) ≡ distributive n t
+    pub primes-distributive : every n (word_prime n ws) ≡ distributive n t
     primes-distributive =
-        same_test (every n (wordPrime n ws)) (distributive n t)
+        same_test (every n (word_prime n ws)) (distributive n t)
         (λ h. primes-spread λ j l. prime-facts n t ws ok words j l (every-at _ n j h l))
         (λ h. every-all _ n λ j l. facts-prime n t ws ok words j l (spread-primes h j l))
 
@@ -296,11 +296,11 @@ module _ (n : ℕ) (t : List ℕ) (ok : accepted n t ≡ true) where
     admits-distributive = sym (primes-admit n t ws ok words) ∙ primes-distributive
 
     -- the test on words decides whether a type is irreducible
-    pub word-irreducible : (j : ℕ) → j < n → wordIrreducible n ws j ≡ irreducible n t j
-    unfolding wordIrreducible
+    pub word-irreducible : (j : ℕ) → j < n → word_irreducible n ws j ≡ irreducible n t j
+    unfolding word_irreducible
     word-irreducible j l =
         let lower : ℕ = without (get_or ws j 0) (2 ^ j) in
-        same_test (wordIrreducible n ws j) (irreducible n t j)
+        same_test (word_irreducible n ws j) (irreducible n t j)
         (λ e.
         let (k, lk, are) = holder-is n t ws ok words lower e in
         covers-irreducible j k l lk λ d ld. are d ld ∙ lower-bit n t ws ok words j d l ld)

@@ -14,15 +14,15 @@ use borrow.Author.Tests.{eq-eqb, ne_eqb, eqb-true}
 use Rattle.graphs.proofs.Search.{true-both, either_true}
 use Rattle.lattice.specs.Table.{every, cell}
 use Rattle.lattice.specs.Words.{word, bit, without, turned, holder}
-use Rattle.bounds.specs.Primes.{wordIrreducible, wordSplits, wordPrime, Finds}
-use Rattle.bounds.specs.Sets.{setIn, word_in, asSets, cellIn, meetIn, joinIn, Apart, Among, MeetsHeld, JoinsHeld, Above, SoughtBy, Sets}
+use Rattle.bounds.specs.Primes.{word_irreducible, word_splits, word_prime, Finds}
+use Rattle.bounds.specs.Sets.{set_in, word_in, as_sets, cell_in, meet_in, join_in, Apart, Among, MeetsHeld, JoinsHeld, Above, SoughtBy, Sets}
 use Rattle.lattice.proofs.Every.{and_left, and_right, implies-from, every-fails, true-not-false, below_suc, last-nothing, last-only}
 use Rattle.lattice.proofs.Bits.{no-bit, and-bit, or-bit, part-from, cleared-bit}
 use Rattle.lattice.proofs.Seeking.{without-inside}
 
 module _ {n : ℕ} {sets : List ℕ} {set left : ℕ} (a : Among n sets set left) where
   -- c has another set: the type sought is among the others
-  pub among_next : (c : ℕ) → (setIn sets c ≡ set → ⊥) → Among n sets set (without left (2 ^ c))
+  pub among_next : (c : ℕ) → (set_in sets c ≡ set → ⊥) → Among n sets set (without left (2 ^ c))
   among_next c other =
       record {
         apart = a.apart;
@@ -34,7 +34,7 @@ module _ {n : ℕ} {sets : List ℕ} {set left : ℕ} (a : Among n sets set left
       }
 
   -- c has the set, and no other type has
-  pub among-found : (c : ℕ) → c < 64 → bit left c ≡ true → setIn sets c ≡ set → c ≡ cell (holder n sets set)
+  pub among-found : (c : ℕ) → c < 64 → bit left c ≡ true → set_in sets c ≡ set → c ≡ cell (holder n sets set)
   unfolding holder
   among-found c l stands e =
       sym
@@ -84,7 +84,7 @@ gather-next {sets} {set} {part} {left} i j g l e =
 -- the types above each irreducible type of the first k stand in `above`
 pub record Kept (n : ℕ) (ws above : List ℕ) (k : ℕ) : Type 0 where
   pub long : length above ≡ 64
-  pub stand : (i : ℕ) → i < k → wordIrreducible n ws i ≡ true → get_or above i 0 ≡ turned n ws i
+  pub stand : (i : ℕ) → i < k → word_irreducible n ws i ≡ true → get_or above i 0 ≡ turned n ws i
 
 module _ {n : ℕ} {ws above : List ℕ} {k : ℕ} (kept : Kept n ws above k) where
   pub kept_more : (v : ℕ) → k < 64 → v ≡ turned n ws k → Kept n ws (set above k v) (k + 1)
@@ -99,39 +99,39 @@ module _ {n : ℕ} {ws above : List ℕ} {k : ℕ} (kept : Kept n ws above k) wh
             (λ r. get_or-set_other above k i v 0 (λ q. omega (arith, q)) ∙ kept.stand i r h);
       }
 
-  pub kept-past : wordIrreducible n ws k ≡ false → Kept n ws above (k + 1)
+  pub kept-past : word_irreducible n ws k ≡ false → Kept n ws above (k + 1)
   kept-past e =
       record {
         long = kept.long;
         stand = λ i s h.
             below_suc {k = i} {n = k} (omega arith)
-            (λ q. absurd (true-not-false (wordIrreducible n ws i) h (ap (wordIrreducible n ws) q ∙ e)))
+            (λ q. absurd (true-not-false (word_irreducible n ws i) h (ap (word_irreducible n ws) q ∙ e)))
             (λ r. kept.stand i r h);
       }
 
 -- what the tests of one type say
 module _ (n : ℕ) (ws : List ℕ) (j : ℕ) where
-  pub prime-past : wordIrreducible n ws j ≡ false → wordPrime n ws j ≡ true
-  unfolding wordPrime
+  pub prime-past : word_irreducible n ws j ≡ false → word_prime n ws j ≡ true
+  unfolding word_prime
   prime-past e = rw e
 
-  pub prime-split : (up : ℕ) → up ≡ turned n ws j → wordSplits n ws up ≡ true → wordPrime n ws j ≡ true
-  unfolding wordPrime
+  pub prime-split : (up : ℕ) → up ≡ turned n ws j → word_splits n ws up ≡ true → word_prime n ws j ≡ true
+  unfolding word_prime
   prime-split up e f =
-      implies-from (wordIrreducible n ws j) (wordSplits n ws (turned n ws j)) λ _. ap (wordSplits n ws) (sym e) ∙ f
+      implies-from (word_irreducible n ws j) (word_splits n ws (turned n ws j)) λ _. ap (word_splits n ws) (sym e) ∙ f
 
   -- an irreducible type that is not prime ends the search
-  pub finds-fault : {types : ℕ} {above : List ℕ} (up : ℕ) → j < n → wordIrreducible n ws j ≡ true → up ≡ turned n ws j →
-      wordSplits n ws up ≡ false → Finds n ws (record { primes = false; types = types; above = above })
-  unfolding wordPrime
+  pub finds-fault : {types : ℕ} {above : List ℕ} (up : ℕ) → j < n → word_irreducible n ws j ≡ true → up ≡ turned n ws j →
+      word_splits n ws up ≡ false → Finds n ws (record { primes = false; types = types; above = above })
+  unfolding word_prime
   finds-fault up l i e f =
-      let none : false ≡ every n (wordPrime n ws) =
-      sym (every-fails (wordPrime n ws) n j l (rw (i, ← e, f))) in
+      let none : false ≡ every n (word_prime n ws) =
+      sym (every-fails (word_prime n ws) n j l (rw (i, ← e, f))) in
       record { primes = none; types = λ q. absurd (true-not-false false q refl); above = λ q. absurd (true-not-false false q refl) }
 
 -- the sets of one type more
 module _ {up : Bool} {n : ℕ} {ws sets : List ℕ} {k : ℕ} (s : Sets up n ws sets k) (long : length sets ≡ 128) (l : k < 64) where
-  pub sets_more : (v w : ℕ) → v ≡ bit_and (get_or ws k 0) (word n (wordIrreducible n ws)) → SoughtBy up n ws k w →
+  pub sets_more : (v w : ℕ) → v ≡ bit_and (get_or ws k 0) (word n (word_irreducible n ws)) → SoughtBy up n ws k w →
       Sets up n ws (set (set sets k v) (64 + k) w) (k + 1)
   sets_more v w e f =
       record {
@@ -140,7 +140,7 @@ module _ {up : Bool} {n : ℕ} {ws sets : List ℕ} {k : ℕ} (s : Sets up n ws 
             below_suc {k = i} {n = k} (omega arith)
             (λ q.
             ap (λ (j : ℕ). get_or (set sets k v) j 0) q ∙ get_or-set_same sets k v 0 (omega (arith, long)) ∙ e ∙
-            ap (λ (j : ℕ). bit_and (get_or ws j 0) (word n (wordIrreducible n ws))) (sym q))
+            ap (λ (j : ℕ). bit_and (get_or ws j 0) (word n (word_irreducible n ws))) (sym q))
             (λ r. get_or-set_other sets k i v 0 (λ q. omega (arith, q)) ∙ s.set i r);
         sought = λ i r.
             below_suc {k = i} {n = k} (omega arith)
@@ -164,11 +164,11 @@ union-member x y other = go (bit_or x y) refl where
   go zero e = absurd (other (omega (arith, e, or_add_and x y, and_le_r x y)))
   go (suc w) e = omega arith
 
-pub as-sets : (n : ℕ) (sets : List ℕ) → (setIn sets (n - 1) ≡ 0 → ⊥) → asSets n sets ≡ true
-as-sets n sets h = ap not (ne_eqb (setIn sets (n - 1)) 0 h)
+pub as-sets : (n : ℕ) (sets : List ℕ) → (set_in sets (n - 1) ≡ 0 → ⊥) → as_sets n sets ≡ true
+as-sets n sets h = ap not (ne_eqb (set_in sets (n - 1)) 0 h)
 
 -- a type is the one with its set
-pub holder-own : (n : ℕ) (sets : List ℕ) (set c : ℕ) → Apart n sets → c < n → set ≡ setIn sets c → c ≡ cell (holder n sets set)
+pub holder-own : (n : ℕ) (sets : List ℕ) (set c : ℕ) → Apart n sets → c < n → set ≡ set_in sets c → c ≡ cell (holder n sets set)
 unfolding holder
 holder-own n sets set c apart l e =
     sym
@@ -178,38 +178,38 @@ holder-own n sets set c apart l e =
 
 module _ (n : ℕ) (sets : List ℕ) (cells : List (List ℕ)) (a b : ℕ) where
   -- the rows of cells have a place for a type, if the cells are used
-  pub row_inside : setIn sets (n - 1) ≡ 0 → (asSets n sets ≡ false → length cells ≡ 64) → a < n → n ≤ 64 → a < length cells
-  row_inside e long l few = omega (arith, long (ap not (eq-eqb (setIn sets (n - 1)) 0 e)))
+  pub row_inside_lem : set_in sets (n - 1) ≡ 0 → (as_sets n sets ≡ false → length cells ≡ 64) → a < n → n ≤ 64 → a < length cells
+  row_inside_lem e long l few = omega (arith, long (ap not (eq-eqb (set_in sets (n - 1)) 0 e)))
 
-  pub meet-in-cells : setIn sets (n - 1) ≡ 0 → cellIn cells a b ≡ meetIn n sets cells a b
-  unfolding meetIn
-  meet-in-cells e = rw (eq-eqb (setIn sets (n - 1)) 0 e)
+  pub meet-in-cells : set_in sets (n - 1) ≡ 0 → cell_in cells a b ≡ meet_in n sets cells a b
+  unfolding meet_in
+  meet-in-cells e = rw (eq-eqb (set_in sets (n - 1)) 0 e)
 
-  pub join-in-cells : setIn sets (n - 1) ≡ 0 → cellIn cells a b ≡ joinIn n sets cells a b
-  unfolding joinIn
-  join-in-cells e = rw (eq-eqb (setIn sets (n - 1)) 0 e)
+  pub join-in-cells : set_in sets (n - 1) ≡ 0 → cell_in cells a b ≡ join_in n sets cells a b
+  unfolding join_in
+  join-in-cells e = rw (eq-eqb (set_in sets (n - 1)) 0 e)
 
-  module _ (filled : setIn sets (n - 1) ≡ 0 → ⊥) (la : a < n) (lb : b < n) where
-    in-meets : (r : ℕ) → r ≡ cell (holder n sets (bit_and (setIn sets a) (setIn sets b))) → r ≡ meetIn n sets cells a b
-    unfolding meetIn
+  module _ (filled : set_in sets (n - 1) ≡ 0 → ⊥) (la : a < n) (lb : b < n) where
+    in-meets : (r : ℕ) → r ≡ cell (holder n sets (bit_and (set_in sets a) (set_in sets b))) → r ≡ meet_in n sets cells a b
+    unfolding meet_in
     in-meets r e = rw (as-sets n sets filled) e
 
-    in-joins : (r : ℕ) → r ≡ cell (holder n sets (bit_or (setIn sets a) (setIn sets b))) → r ≡ joinIn n sets cells a b
-    unfolding joinIn
+    in-joins : (r : ℕ) → r ≡ cell (holder n sets (bit_or (set_in sets a) (set_in sets b))) → r ≡ join_in n sets cells a b
+    unfolding join_in
     in-joins r e = rw (as-sets n sets filled) e
 
-    module _ (ready : asSets n sets ≡ true → MeetsHeld n sets) where
+    module _ (ready : as_sets n sets ≡ true → MeetsHeld n sets) where
       meets-held : MeetsHeld n sets
       meets-held = ready (as-sets n sets filled)
 
-      pub meet_left : bit_and (setIn sets a) (setIn sets b) ≡ setIn sets a → a ≡ meetIn n sets cells a b
+      pub meet_left : bit_and (set_in sets a) (set_in sets b) ≡ set_in sets a → a ≡ meet_in n sets cells a b
       meet_left e = in-meets a (holder-own n sets _ a meets-held.apart la e)
 
-      pub meet_right : bit_and (setIn sets a) (setIn sets b) ≡ setIn sets b → b ≡ meetIn n sets cells a b
+      pub meet_right : bit_and (set_in sets a) (set_in sets b) ≡ set_in sets b → b ≡ meet_in n sets cells a b
       meet_right e = in-meets b (holder-own n sets _ b meets-held.apart lb e)
 
       -- a type whose set is the overlap is below both
-      meet-among : Among n sets (bit_and (setIn sets a) (setIn sets b)) (bit_and (word_in sets a) (word_in sets b))
+      meet-among : Among n sets (bit_and (set_in sets a) (set_in sets b)) (bit_and (word_in sets a) (word_in sets b))
       meet-among =
           record {
             apart = meets-held.apart;
@@ -217,44 +217,44 @@ module _ (n : ℕ) (sets : List ℕ) (cells : List (List ℕ)) (a b : ℕ) where
                 meets-held.inside a la j l
                 (and_left (bit (word_in sets a) j) (bit (word_in sets b) j) (sym (and-bit (word_in sets a) (word_in sets b) j) ∙ e));
             kept = λ k l e.
-                let both : (j : ℕ) → bit (setIn sets k) j ≡ true → bit (setIn sets a) j && bit (setIn sets b) j ≡ true =
-                λ j f. sym (and-bit (setIn sets a) (setIn sets b) j) ∙ ap (λ (w : ℕ). bit w j) (sym e) ∙ f in
+                let both : (j : ℕ) → bit (set_in sets k) j ≡ true → bit (set_in sets a) j && bit (set_in sets b) j ≡ true =
+                λ j f. sym (and-bit (set_in sets a) (set_in sets b) j) ∙ ap (λ (w : ℕ). bit w j) (sym e) ∙ f in
                 and-bit (word_in sets a) (word_in sets b) k ∙
                 true-both (bit (word_in sets a) k) (bit (word_in sets b) k)
                 (meets-held.lower k a l la
-                (part-from (setIn sets k) (setIn sets a) λ j f. and_left (bit (setIn sets a) j) (bit (setIn sets b) j) (both j f)))
+                (part-from (set_in sets k) (set_in sets a) λ j f. and_left (bit (set_in sets a) j) (bit (set_in sets b) j) (both j f)))
                 (meets-held.lower k b l lb
-                (part-from (setIn sets k) (setIn sets b) λ j f. and_right (bit (setIn sets a) j) (bit (setIn sets b) j) (both j f)));
+                (part-from (set_in sets k) (set_in sets b) λ j f. and_right (bit (set_in sets a) j) (bit (set_in sets b) j) (both j f)));
           }
 
       pub meet-sought : (r : ℕ) → n ≤ 64 →
-          ((n : ℕ) → n ≤ 64 → Among n sets (bit_and (setIn sets a) (setIn sets b)) (bit_and (word_in sets a) (word_in sets b)) →
-          r ≡ cell (holder n sets (bit_and (setIn sets a) (setIn sets b)))) → r ≡ meetIn n sets cells a b
+          ((n : ℕ) → n ≤ 64 → Among n sets (bit_and (set_in sets a) (set_in sets b)) (bit_and (word_in sets a) (word_in sets b)) →
+          r ≡ cell (holder n sets (bit_and (set_in sets a) (set_in sets b)))) → r ≡ meet_in n sets cells a b
       meet-sought r few answer = in-meets r (answer n few meet-among)
 
-    module _ (ready : asSets n sets ≡ true → JoinsHeld n sets) where
+    module _ (ready : as_sets n sets ≡ true → JoinsHeld n sets) where
       joins-held : JoinsHeld n sets
       joins-held = ready (as-sets n sets filled)
 
-      pub join-left : bit_or (setIn sets a) (setIn sets b) ≡ setIn sets a → a ≡ joinIn n sets cells a b
+      pub join-left : bit_or (set_in sets a) (set_in sets b) ≡ set_in sets a → a ≡ join_in n sets cells a b
       join-left e = in-joins a (holder-own n sets _ a joins-held.apart la e)
 
-      pub join-right : bit_or (setIn sets a) (setIn sets b) ≡ setIn sets b → b ≡ joinIn n sets cells a b
+      pub join-right : bit_or (set_in sets a) (set_in sets b) ≡ set_in sets b → b ≡ join_in n sets cells a b
       join-right e = in-joins b (holder-own n sets _ b joins-held.apart lb e)
 
       -- a type whose set is the union is above each member of it
-      join-among : (part : ℕ) → Above sets (bit_or (setIn sets a) (setIn sets b)) part → Among n sets (bit_or (setIn sets a) (setIn sets b)) part
+      join-among : (part : ℕ) → Above sets (bit_or (set_in sets a) (set_in sets b)) part → Among n sets (bit_or (set_in sets a) (set_in sets b)) part
       join-among part above =
           let (m, lm, in-union, under) = above.one in
           record {
             apart = joins-held.apart;
             inside = λ j l e.
                 ⊎_elim (λ f. joins-held.inside a m la lm f j l (under j e)) (λ f. joins-held.inside b m lb lm f j l (under j e))
-                (either_true (bit (setIn sets a) m) (bit (setIn sets b) m) (sym (or-bit (setIn sets a) (setIn sets b) m) ∙ in-union));
+                (either_true (bit (set_in sets a) m) (bit (set_in sets b) m) (sym (or-bit (set_in sets a) (set_in sets b) m) ∙ in-union));
             kept = λ k l e. above.kept k λ j lj f. joins-held.upper k j l lj (ap (λ (w : ℕ). bit w j) e ∙ f);
           }
 
-      pub join-sought : (part r : ℕ) → n ≤ 64 → Above sets (bit_or (setIn sets a) (setIn sets b)) part →
-          ((n : ℕ) → n ≤ 64 → Among n sets (bit_or (setIn sets a) (setIn sets b)) part →
-          r ≡ cell (holder n sets (bit_or (setIn sets a) (setIn sets b)))) → r ≡ joinIn n sets cells a b
+      pub join-sought : (part r : ℕ) → n ≤ 64 → Above sets (bit_or (set_in sets a) (set_in sets b)) part →
+          ((n : ℕ) → n ≤ 64 → Among n sets (bit_or (set_in sets a) (set_in sets b)) part →
+          r ≡ cell (holder n sets (bit_or (set_in sets a) (set_in sets b)))) → r ≡ join_in n sets cells a b
       join-sought part r few above answer = in-joins r (answer n few (join-among part above))

@@ -9,9 +9,9 @@ use Rattle.acceptance.specs.declared.TableFault.{TableFault}
 use Rattle.acceptance.specs.declared.TableFault.TheVariants.{Bounds}
 use Rattle.acceptance.specs.declared.Opened.{Opened}
 use Rattle.acceptance.specs.declared.Opened.TheVariants.{Accepted, Refused}
-use Rattle.lattice.specs.Table.{every, sized, ordered, accepted, sideBound, boundRow, overwrite, filled}
+use Rattle.lattice.specs.Table.{every, sized, ordered, accepted, side_bound, bound_row, overwrite, filled}
 use Rattle.acceptance.specs.Reply.{opened}
-use Rattle.lattice.specs.Words.{Words, wordBound, allFound, OrderWords}
+use Rattle.lattice.specs.Words.{Words, word_bound, all_found, OrderWords}
 use Rattle.lattice.proofs.Every.{true-not-false}
 use Rattle.lattice.proofs.Sizes.{size-facts}
 use Rattle.lattice.proofs.OrderLaws.{facts-ordered, rows-ordered}
@@ -19,8 +19,8 @@ use Rattle.lattice.proofs.Rows.{overwrite-same, length-overwrite}
 use Rattle.acceptance.proofs.Acceptance.{accepted-opened, opened-accepted, table-ordered, side-bound, answer-found}
 use Rattle.bounds.specs.declared.Form.{Form}
 use Rattle.bounds.specs.declared.Form.TheVariants as forms
-use Rattle.bounds.specs.Primes.{wordPrime}
-use Rattle.bounds.specs.Sets.{distributive, setIn, Holding, Sets}
+use Rattle.bounds.specs.Primes.{word_prime}
+use Rattle.bounds.specs.Sets.{distributive, set_in, Holding, Sets}
 use Rattle.bounds.specs.Opening.{SetsHeld, CellsNeeded, Chooses, Fills, Opening, OpenedFor}
 use Rattle.bounds.proofs.Distributive.{primes-distributive}
 use Rattle.bounds.proofs.Types.{holding-sets, holding-cells}
@@ -73,16 +73,16 @@ module _ (up : Bool) (n : ℕ) (t sets : List ℕ) where
       }
 
   module _ (needed : CellsNeeded n t sets) (ok : accepted n t ≡ true) (cells₀ cells : List (List ℕ)) (long : length cells₀ ≡ 64)
-      (is : cells ≡ filled n t (sideBound n t up) cells₀) where
-    cells-held : Holding up n t (sideBound n t up) sets cells₀ cells
-    cells-held = holding-cells n t ok up (sideBound n t up) sets cells₀ cells (needed.other ok) needed.no-set long is
+      (is : cells ≡ filled n t (side_bound n t up) cells₀) where
+    cells-held : Holding up n t (side_bound n t up) sets cells₀ cells
+    cells-held = holding-cells n t ok up (side_bound n t up) sets cells₀ cells (needed.other ok) needed.no-set long is
 
     pub opened-cells : OpenedFor up n t sets cells
     opened-cells = record { ok = ok; lent = cells₀; long = λ d. long; holding = cells-held }
 
 -- the three ways through opening
 module _ (up : Bool) (n : ℕ) (t sets : List ℕ) (cells₀ : List (List ℕ)) where
-  pub opening-refused : (fault : TableFault) → Refused fault ≡ opened n t → Opening up n t (sideBound n t up) (Refused fault) sets cells₀ cells₀
+  pub opening-refused : (fault : TableFault) → Refused fault ≡ opened n t → Opening up n t (side_bound n t up) (Refused fault) sets cells₀ cells₀
   opening-refused fault e =
       record {
         answers = e;
@@ -91,11 +91,11 @@ module _ (up : Bool) (n : ℕ) (t sets : List ℕ) (cells₀ : List (List ℕ)) 
             let q : Refused fault ≡ Accepted = e ∙ accepted-opened n t ok in let z : ◌≡◌ {A = ℕ} 0 1 = cc in absurd (omega arith);
       }
 
-  pub opening-sets : SetsHeld up n t sets → Opening up n t (sideBound n t up) Accepted sets cells₀ cells₀
+  pub opening-sets : SetsHeld up n t sets → Opening up n t (side_bound n t up) Accepted sets cells₀ cells₀
   opening-sets h = record { answers = sym (accepted-opened n t h.ok); long = refl; holds = λ ok. h.holding cells₀ }
 
   pub opening-cells : (cells : List (List ℕ)) (answer : Opened) → CellsNeeded n t sets → length cells₀ ≡ 64 → Fills up n t answer cells₀ cells →
-      Opening up n t (sideBound n t up) answer sets cells₀ cells
+      Opening up n t (side_bound n t up) answer sets cells₀ cells
   opening-cells cells answer needed long fills =
       record {
         answers = fills.answers;
@@ -111,8 +111,8 @@ words-ordered n t size order ws words =
 -- The rows are an order. The answer depends on whether all bounds of one side are found.
 module _ (n : ℕ) (t down : List ℕ) (passed : OrderWords n t down) (up : Bool) (ws : List ℕ) (made : Words n t up ws) where
   -- the cells are filled with the bounds of the words, which are those of the table
-  pub cells-filled : (side : Bool) → side ≡ up → (cells₀ cells : List (List ℕ)) → cells ≡ overwrite n (boundRow n (wordBound n ws)) cells₀
-      → cells ≡ filled n t (sideBound n t side) cells₀
+  pub cells-filled : (side : Bool) → side ≡ up → (cells₀ cells : List (List ℕ)) → cells ≡ overwrite n (bound_row n (word_bound n ws)) cells₀
+      → cells ≡ filled n t (side_bound n t side) cells₀
   unfolding filled
   cells-filled side e cells₀ cells f =
       rw (passed.size, facts-ordered n t (table-ordered n t down passed), e)
@@ -120,17 +120,17 @@ module _ (n : ℕ) (t down : List ℕ) (passed : OrderWords n t down) (up : Bool
 
   -- the answer and the cells
   pub fills-found : (b side : Bool) → side ≡ up → (answer : Opened) (cells₀ cells : List (List ℕ)) → answer ≡ cond b Accepted (Refused Bounds) →
-      b ≡ allFound n (wordBound n ws) → cells ≡ overwrite n (boundRow n (wordBound n ws)) cells₀ → Fills side n t answer cells₀ cells
+      b ≡ all_found n (word_bound n ws) → cells ≡ overwrite n (bound_row n (word_bound n ws)) cells₀ → Fills side n t answer cells₀ cells
   fills-found b side e answer cells₀ cells q found f =
       record {
         answers = q ∙ answer-found n t down passed up ws made b (sym found);
-        long = ap length f ∙ length-overwrite n (boundRow n (wordBound n ws)) cells₀;
+        long = ap length f ∙ length-overwrite n (bound_row n (word_bound n ws)) cells₀;
         filled-cells = λ ok. cells-filled side e cells₀ cells f;
       }
 
 -- The rows are an order, and the search for primes has ended.
 module _ (n : ℕ) (t down : List ℕ) (passed : OrderWords n t down) (up : Bool) (sets : List ℕ) where
-  pub cells-needed : every n (wordPrime n down) ≡ false → setIn sets (n - 1) ≡ 0 → CellsNeeded n t sets
+  pub cells-needed : every n (word_prime n down) ≡ false → set_in sets (n - 1) ≡ 0 → CellsNeeded n t sets
   cells-needed prime none =
       record {
         size = passed.size;
@@ -140,15 +140,15 @@ module _ (n : ℕ) (t down : List ℕ) (passed : OrderWords n t down) (up : Bool
       }
 
   -- the test of bounds refuses a table whose types are held as sets
-  pub bounds-refused : false ≡ allFound n (wordBound n down) → Refused Bounds ≡ opened n t
+  pub bounds-refused : false ≡ all_found n (word_bound n down) → Refused Bounds ≡ opened n t
   bounds-refused found = answer-found n t down passed false down passed.words false (sym found)
 
   -- the test of bounds accepts it
-  pub sets-held : every n (wordPrime n down) ≡ true → Sets up n down sets n → true ≡ allFound n (wordBound n down) → SetsHeld up n t sets
+  pub sets-held : every n (word_prime n down) ≡ true → Sets up n down sets n → true ≡ all_found n (word_bound n down) → SetsHeld up n t sets
   sets-held prime made found =
       let ok : accepted n t ≡ true = opened-accepted n t _ (answer-found n t down passed false down passed.words true (sym found)) refl in
       record {
         ok = ok;
         spread = sym (primes-distributive n t ok down passed.words) ∙ prime;
-        holding = λ cells. holding-sets n t ok down passed.words up (sideBound n t up) sets cells cells prime made refl;
+        holding = λ cells. holding-sets n t ok down passed.words up (side_bound n t up) sets cells cells prime made refl;
       }

@@ -11,15 +11,15 @@ use lib.ListN.{get_or}
 use lib.Dec.{eqb}
 use borrow.Author.Tests.{eq-eqb, ne_eqb, eqb-true, not-true}
 use Rattle.graphs.proofs.Search.{same_test, not-true-false, true-both}
-use Rattle.lattice.specs.Table.{every, found, implies, below, accepted, meetBelow, isResidual, residual, admits}
+use Rattle.lattice.specs.Table.{every, found, implies, below, accepted, meet_below, is_residual, residual, admits}
 use Rattle.lattice.specs.Words.{digit, word, related, Words, bit, without, turned, holder, Sided, Inside}
-use Rattle.bounds.specs.Primes.{wordIrreducible, wordSplits, wordPrime}
+use Rattle.bounds.specs.Primes.{word_irreducible, word_splits, word_prime}
 use Rattle.lattice.proofs.Every.{and_left, and_right, implies-at, implies-from, every-at, every-all, not-false-true, true-not-false, below_or_not, below_suc, last-passes, last_found, found_some}
 use Rattle.lattice.proofs.WordLaws.{word_below, word-bits}
 use Rattle.lattice.proofs.Bits.{bit_word, bits-same, without-bit, without-most, cleared-bit}
 use Rattle.lattice.proofs.OrderLaws.{row-bit}
 use Rattle.lattice.proofs.Seeking.{without-inside}
-use Rattle.lattice.proofs.Laws.{Meet, Join, Residual, meet_below, accepted-size, accepted-facts, accepted-sided, zero-type, top-type, below-reflexive, below-transitive, below-antisymmetric, zero-least, top-greatest, meet-exists, join-exists, residual-exists}
+use Rattle.lattice.proofs.Laws.{Meet, Join, Residual, meet_below_lem, accepted-size, accepted-facts, accepted-sided, zero-type, top-type, below-reflexive, below-transitive, below-antisymmetric, zero-least, top-greatest, meet-exists, join-exists, residual-exists}
 
 -- j is below n and passes, and no number below n that passes has a lesser value
 abbrev Least : (ℕ → Bool) → (ℕ → ℕ) → ℕ → Type 0
@@ -173,8 +173,8 @@ module _ (n : ℕ) (t ws : List ℕ) (ok : accepted n t ≡ true) (words : Words
   less-small i b l = omega (arith, word_small i l, without-most (get_or ws i 0) b)
 
   -- the test on words decides whether j is prime
-  pub prime-facts : (j : ℕ) → j < n → wordPrime n ws j ≡ true → Primes n t j
-  unfolding wordPrime wordIrreducible wordSplits
+  pub prime-facts : (j : ℕ) → j < n → word_prime n ws j ≡ true → Primes n t j
+  unfolding word_prime word_irreducible word_splits
   prime-facts j l h k lk covers =
       let lower : ℕ = without (get_or ws j 0) (2 ^ j) in
       let others : ℕ = without (get_or ws (n - 1) 0) (turned n ws j) in
@@ -185,8 +185,8 @@ module _ (n : ℕ) (t ws : List ℕ) (ok : accepted n t ≡ true) (words : Words
       covers d s ∙ sym (lower-bit j d l s))) in
       (r.0, r.1, λ d s. r.2 d s ∙ others-bit j d l s)
 
-  pub facts-prime : (j : ℕ) → j < n → Primes n t j → wordPrime n ws j ≡ true
-  unfolding wordPrime wordIrreducible wordSplits
+  pub facts-prime : (j : ℕ) → j < n → Primes n t j → word_prime n ws j ≡ true
+  unfolding word_prime word_irreducible word_splits
   facts-prime j l h =
       let lower : ℕ = without (get_or ws j 0) (2 ^ j) in
       let others : ℕ = without (get_or ws (n - 1) 0) (turned n ws j) in
@@ -227,14 +227,14 @@ module _ (n : ℕ) (t ws : List ℕ) (ok : accepted n t ≡ true) (words : Words
 
   module _ (p q : ℕ) (lp : p < n) (lq : q < n) where
     -- the meet of d and q is below p
-    under : (d m : ℕ) → Meet n t d q m → meetBelow n t p q d ≡ below t m p
-    under d m k = meet_below n t p q d m k.is
+    under : (d m : ℕ) → Meet n t d q m → meet_below n t p q d ≡ below t m p
+    under d m k = meet_below_lem n t p q d m k.is
 
     module _ (prime : (j : ℕ) → j < n → Primes n t j) where
       -- the least type above all whose meet with q is below p is one of them: else a least type below its meet with q, and
       -- not below p, is irreducible and not prime
       greatest-under : (e m : ℕ) → e < n → Meet n t e q m
-          → ((u : ℕ) → u < n → ((d : ℕ) → d < n → meetBelow n t p q d ≡ true → below t d u ≡ true) → below t e u ≡ true)
+          → ((u : ℕ) → u < n → ((d : ℕ) → d < n → meet_below n t p q d ≡ true → below t d u ≡ true) → below t e u ≡ true)
           → below t m p ≡ false → ⊥
       greatest-under e m le x least f =
           let (j, l, jm, jp, k, lk, covers) = least-outside n t ok m p x.type lp f in
@@ -254,16 +254,16 @@ module _ (n : ℕ) (t ws : List ℕ) (ok : accepted n t ≡ true) (words : Words
           (not-true (below t j e) (sym (split.2 e le) ∙ ea))
 
       residual-there : found (residual n t p q) ≡ true
-      unfolding residual isResidual
+      unfolding residual is_residual
       residual-there =
-          let e : (e : ℕ) × (e < n) × ((d : ℕ) → d < n → meetBelow n t p q d ≡ true → below t d e ≡ true)
-          × ((u : ℕ) → u < n → ((d : ℕ) → d < n → meetBelow n t p q d ≡ true → below t d u ≡ true) → below t e u ≡ true) =
-          join-of (meetBelow n t p q) n (omega arith) in
+          let e : (e : ℕ) × (e < n) × ((d : ℕ) → d < n → meet_below n t p q d ≡ true → below t d e ≡ true)
+          × ((u : ℕ) → u < n → ((d : ℕ) → d < n → meet_below n t p q d ≡ true → below t d u ≡ true) → below t e u ≡ true) =
+          join-of (meet_below n t p q) n (omega arith) in
           let r : (m : ℕ) × Meet n t e.0 q m = meet-exists n t ok e.0 q e.1 lq in
-          last_found (isResidual n t p q) n e.0 e.1
-          (true-both (meetBelow n t p q e.0) (every n (λ d. implies (meetBelow n t p q d) (below t d e.0)))
+          last_found (is_residual n t p q) n e.0 e.1
+          (true-both (meet_below n t p q e.0) (every n (λ d. implies (meet_below n t p q d) (below t d e.0)))
           (under e.0 r.0 r.1 ∙ not-false-true (below t r.0 p) (greatest-under e.0 r.0 e.1 r.1 e.3))
-          (every-all _ n λ d l. implies-from (meetBelow n t p q d) (below t d e.0) (e.2 d l)))
+          (every-all _ n λ d l. implies-from (meet_below n t p q d) (below t d e.0) (e.2 d l)))
 
   -- the residual of an irreducible type's lower neighbour by the type splits the types
   splits-there : admits n t ≡ true → (j : ℕ) → j < n → Primes n t j
@@ -296,10 +296,10 @@ module _ (n : ℕ) (t ws : List ℕ) (ok : accepted n t ≡ true) (words : Words
             true-not-false (below t j d) (subst (λ (i : ℕ). below t i d ≡ true) same z.left) (not-true (below t j d) e))))),
       )
 
-  pub primes-admit : every n (wordPrime n ws) ≡ admits n t
+  pub primes-admit : every n (word_prime n ws) ≡ admits n t
   unfolding admits
   primes-admit =
-      same_test (every n (wordPrime n ws)) (admits n t)
+      same_test (every n (word_prime n ws)) (admits n t)
       (λ h.
       every-all _ n λ p lp.
       every-all _ n λ q lq. residual-there p q lp lq λ j l. prime-facts j l (every-at _ n j h l))

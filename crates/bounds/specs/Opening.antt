@@ -5,11 +5,11 @@ use Rattle.std.proofs.Math.Option.{Option}
 use Rattle.acceptance.specs.declared.TableFault.{TableFault}
 use Rattle.acceptance.specs.declared.Opened.{Opened}
 use Rattle.acceptance.specs.declared.Opened.TheVariants as answers
-use Rattle.lattice.specs.Table.{sized, ordered, accepted, sideBound, filled}
+use Rattle.lattice.specs.Table.{sized, ordered, accepted, side_bound, filled}
 use Rattle.acceptance.specs.Reply.{opened}
 use Rattle.bounds.specs.declared.Form.{Form}
 use Rattle.bounds.specs.declared.Form.TheVariants.{Refused, AsSets, AsCells}
-use Rattle.bounds.specs.Sets.{distributive, setIn, Holding}
+use Rattle.bounds.specs.Sets.{distributive, set_in, Holding}
 
 -- The answer is that of acceptance; if the table is accepted, the lent words and cells hold the bounds of one side.
 pub record Opening (up : Bool) (n : ℕ) (t : List ℕ) (bound : ℕ → ℕ → Option ℕ) (answer : Opened) (sets : List ℕ) (cells₀ cells : List (List ℕ)) :
@@ -22,7 +22,7 @@ pub record Opening (up : Bool) (n : ℕ) (t : List ℕ) (bound : ℕ → ℕ →
 pub record SetsHeld (up : Bool) (n : ℕ) (t sets : List ℕ) : Type 0 where
   pub ok : accepted n t ≡ true
   pub spread : distributive n t ≡ true
-  pub holding : (cells : List (List ℕ)) → Holding up n t (sideBound n t up) sets cells cells
+  pub holding : (cells : List (List ℕ)) → Holding up n t (side_bound n t up) sets cells cells
 
 -- "Other tables": the table passes the tests of refusals 1 and 2, and is not distributive if it is accepted. The words say that they hold no
 -- sets.
@@ -30,7 +30,7 @@ pub record CellsNeeded (n : ℕ) (t sets : List ℕ) : Type 0 where
   pub size : sized n t ≡ true
   pub order : ordered n t ≡ true
   pub other : accepted n t ≡ true → distributive n t ≡ false
-  pub no-set : setIn sets (n - 1) ≡ 0
+  pub no-set : set_in sets (n - 1) ≡ 0
 
 -- The table is refused, or its types are held as sets, or its cells are needed.
 pub record Chooses (up : Bool) (n : ℕ) (t : List ℕ) (answer : Form) (sets : List ℕ) : Type 0 where
@@ -42,11 +42,11 @@ pub record Chooses (up : Bool) (n : ℕ) (t : List ℕ) (answer : Form) (sets : 
 pub record Fills (up : Bool) (n : ℕ) (t : List ℕ) (answer : Opened) (cells₀ cells : List (List ℕ)) : Type 0 where
   pub answers : answer ≡ opened n t
   pub long : length cells ≡ length cells₀
-  pub filled-cells : accepted n t ≡ true → cells ≡ filled n t (sideBound n t up) cells₀
+  pub filled-cells : accepted n t ≡ true → cells ≡ filled n t (side_bound n t up) cells₀
 
 -- The words and cells are as opening an accepted table for one side leaves them; `lent` are the cells before.
 pub record OpenedFor (up : Bool) (n : ℕ) (t sets : List ℕ) (cells : List (List ℕ)) : Type 0 where
   pub ok : accepted n t ≡ true
   pub lent : List (List ℕ)
   pub long : distributive n t ≡ false → length lent ≡ 64
-  pub holding : Holding up n t (sideBound n t up) sets lent cells
+  pub holding : Holding up n t (side_bound n t up) sets lent cells

@@ -7,19 +7,19 @@ use Rattle.lattice.specs.Words.{word, without, turned, holder}
 
 module _ (n : ℕ) (ws : List ℕ) where
   -- the types strictly below j are those below one type
-  unfoldable pub wordIrreducible : ℕ → Bool
-  wordIrreducible j = found (holder n ws (without (get_or ws j 0) (2 ^ j)))
+  unfoldable pub word_irreducible : ℕ → Bool
+  word_irreducible j = found (holder n ws (without (get_or ws j 0) (2 ^ j)))
 
   -- the types that are not in a word are those below one type
-  unfoldable pub wordSplits : ℕ → Bool
-  wordSplits above = found (holder n ws (without (get_or ws (n - 1) 0) above))
+  unfoldable pub word_splits : ℕ → Bool
+  word_splits above = found (holder n ws (without (get_or ws (n - 1) 0) above))
 
   -- if the types strictly below j are those below one type, so are the types not above j
-  unfoldable pub wordPrime : ℕ → Bool
-  wordPrime j = implies (wordIrreducible j) (wordSplits (turned n ws j))
+  unfoldable pub word_prime : ℕ → Bool
+  word_prime j = implies (word_irreducible j) (word_splits (turned n ws j))
 
 -- What the search for irreducible types answers: whether all of them are prime, and if so the irreducible types and the types above each.
 pub record Finds (n : ℕ) (ws : List ℕ) (r : Irreducibles) : Type 0 where
-  pub primes : r.primes ≡ every n (wordPrime n ws)
-  pub types : r.primes ≡ true → r.types ≡ word n (wordIrreducible n ws)
-  pub above : r.primes ≡ true → (j : ℕ) → j < n → wordIrreducible n ws j ≡ true → get_or r.above j 0 ≡ turned n ws j
+  pub primes : r.primes ≡ every n (word_prime n ws)
+  pub types : r.primes ≡ true → r.types ≡ word n (word_irreducible n ws)
+  pub above : r.primes ≡ true → (j : ℕ) → j < n → word_irreducible n ws j ≡ true → get_or r.above j 0 ≡ turned n ws j

@@ -1,14 +1,14 @@
 // Fills the table of meets or of joins from the words of one side of an order: the bound of a and b is the type whose word has the bits
 // that their words share.
 ghost use Rattle.std.specs.Prelude.{◌≡◌, ℕ, ◌+◌, ◌<◌, ◌≤◌, [], get_or, leb};
-ghost use Rattle.lattice.specs.Table.{every, implies, found as foundOf, cell, boundRow, overwrite};
-ghost use Rattle.lattice.specs.Words.{wordBound, allFound, Sided};
+ghost use Rattle.lattice.specs.Table.{every, implies, found as foundOf, cell, bound_row, overwrite};
+ghost use Rattle.lattice.specs.Words.{word_bound, all_found, Sided};
 ghost use Rattle.bounds.specs.Cells.{Columns};
 
 // The bound of types a and b, or 64 where there is none. Fast paths: the end bit's type, a, or b.
 fn bound(words: &[u64; 64], low: bool, a: usize, b: usize) -> u8
     requires { (a < 64) × (b < 64) }
-    ensures { (n : ℕ) → n ≤ 64 → Sided n words.now → a < n → b < n → result ≡ cell (wordBound n words.now a b) }
+    ensures { (n : ℕ) → n ≤ 64 → Sided n words.now → a < n → b < n → result ≡ cell (word_bound n words.now a b) }
 {
     let word = words[a] & words[b];
     if word == 0 {
@@ -30,8 +30,8 @@ fn bound(words: &[u64; 64], low: bool, a: usize, b: usize) -> u8
 // Writes the bounds of type a with the types from a on into row a and into column a, and answers whether all were found.
 fn bound_row(n: usize, words: &[u64; 64], low: bool, a: usize, rows: &mut [[u8; 64]; 64]) -> bool
     requires { (a < n) × (n ≤ 64) × Sided n words.now × Columns n words.now rows.old a }
-    ensures found { result ≡ every n (λ b. implies (leb a b) (foundOf (wordBound n words.now a b))) }
-    ensures row { get_or rows.new a [] ≡ boundRow n (wordBound n words.now) a }
+    ensures found { result ≡ every n (λ b. implies (leb a b) (foundOf (word_bound n words.now a b))) }
+    ensures row { get_or rows.new a [] ≡ bound_row n (word_bound n words.now) a }
     ensures columns { Columns n words.now rows.new (a + 1) }
 {
     let mut found = true;
@@ -51,8 +51,8 @@ fn bound_row(n: usize, words: &[u64; 64], low: bool, a: usize, rows: &mut [[u8; 
 // Fills the first n rows of the table, and answers whether every two types have a bound. The bound of each pair is sought once.
 pub fn fill(n: usize, words: &[u64; 64], low: bool, table: &mut [[u8; 64]; 64]) -> bool
     requires { (n ≤ 64) × Sided n words.now }
-    ensures all { result ≡ allFound n (wordBound n words.now) }
-    ensures rows { table.new ≡ overwrite n (boundRow n (wordBound n words.now)) table.old }
+    ensures all { result ≡ all_found n (word_bound n words.now) }
+    ensures rows { table.new ≡ overwrite n (bound_row n (word_bound n words.now)) table.old }
 {
     let mut rows = [[0u8; 64]; 64];
     let mut found = true;

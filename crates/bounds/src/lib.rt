@@ -2,7 +2,7 @@
 // by 1, 2 or 3. After acceptance the sets or cells that the caller lends hold the bounds of one side. The crate knows tables, and
 // nothing of records.
 ghost use Rattle.std.specs.Prelude.{◌≡◌, true, length};
-ghost use Rattle.lattice.specs.Table.{sized, ordered, sideBound};
+ghost use Rattle.lattice.specs.Table.{sized, ordered, side_bound};
 ghost use Rattle.bounds.specs.Opening.{Chooses, Fills, Opening};
 
 use acceptance::{Opened, TableFault};
@@ -64,7 +64,7 @@ pub fn open(
     cells: &mut [[u8; 64]; 64],
 ) -> Opened
     requires { (length sets.old ≡ 128) × (length cells.old ≡ 64) }
-    ensures { Opening up n table.now (sideBound n table.now up) result sets.new cells.old cells.new }
+    ensures { Opening up n table.now (side_bound n table.now up) result sets.new cells.old cells.new }
 {
     let form = choose(n, table, up, sets);
     match form {

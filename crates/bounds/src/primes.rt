@@ -2,12 +2,12 @@
 // admits differences.
 ghost use Rattle.std.specs.Prelude.{◌≡◌, ◌+◌, ◌<◌, ◌≤◌};
 ghost use Rattle.lattice.specs.Words.{Sided};
-ghost use Rattle.bounds.specs.Primes.{wordIrreducible, wordSplits, Finds};
+ghost use Rattle.bounds.specs.Primes.{word_irreducible, word_splits, Finds};
 
 // Whether type j is irreducible: the types strictly below it are those below one type.
 fn is_irreducible(n: usize, down: &[u64; 64], j: usize) -> bool
     requires { (j < n) × (n ≤ 64) × Sided n down.now }
-    ensures { result ≡ wordIrreducible n down.now j }
+    ensures { result ≡ word_irreducible n down.now j }
 {
     let lower = lattice::words::cleared(down[j], j);
     lattice::search::find_word(down, lower, false) < 64
@@ -16,7 +16,7 @@ fn is_irreducible(n: usize, down: &[u64; 64], j: usize) -> bool
 // Whether an irreducible type is prime, from the word of the types above it: the types not above it are those below one type.
 fn is_prime(n: usize, down: &[u64; 64], above: u64) -> bool
     requires { (0 < n) × (n ≤ 64) × Sided n down.now }
-    ensures { result ≡ wordSplits n down.now above }
+    ensures { result ≡ word_splits n down.now above }
 {
     let others = lattice::words::without(down[n - 1], above);
     lattice::search::find_word(down, others, false) < 64

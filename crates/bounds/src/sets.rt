@@ -4,8 +4,8 @@
 ghost use Rattle.std.specs.Prelude.{◌≡◌, true, false, ℕ, ◌+◌, ◌-◌, ◌<◌, ◌≤◌, length};
 ghost use Rattle.lattice.specs.Table.{every, cell};
 ghost use Rattle.lattice.specs.Words.{Sided, holder};
-ghost use Rattle.bounds.specs.Primes.{wordPrime};
-ghost use Rattle.bounds.specs.Sets.{setIn, meetIn, joinIn, Among, Seekable, Above, Sets};
+ghost use Rattle.bounds.specs.Primes.{word_prime};
+ghost use Rattle.bounds.specs.Sets.{set_in, meet_in, join_in, Among, Seekable, Above, Sets};
 
 // The number of words. `sets[a]` is the set of type a; `sets[64 + a]`: candidate types when a set is turned back into a type.
 pub const WORDS: usize = 128;
@@ -15,9 +15,9 @@ pub const WORDS: usize = 128;
 pub fn hold(n: usize, down: &[u64; 64], up: bool, sets: &mut [u64; WORDS]) -> bool
     requires n_nonzero { (0 < n) × (n ≤ 64) × Sided n down.now }
     requires sets_len { length sets.old ≡ 128 }
-    ensures value { result ≡ every n (wordPrime n down.now) }
+    ensures value { result ≡ every n (word_prime n down.now) }
     ensures sets { result ≡ true → Sets up n down.now sets.new n }
-    ensures n_after { result ≡ false → setIn sets.new (n - 1) ≡ 0 }
+    ensures n_after { result ≡ false → set_in sets.new (n - 1) ≡ 0 }
 {
     let found = super::primes::find_irreducibles(n, down);
     if !found.primes {
@@ -75,7 +75,7 @@ fn above_all(sets: &[u64; WORDS], set: u64) -> u64
 pub fn meet<'a>(n: usize, sets: &'a [u64; WORDS], cells: &'a [[u8; 64]], a: usize, b: usize) -> u8
     requires a_lt_n { (a < n) × (b < n) × (n ≤ 64) }
     requires seekable { Seekable false n sets.now cells.now }
-    ensures { result ≡ meetIn n sets.now cells.now a b }
+    ensures { result ≡ meet_in n sets.now cells.now a b }
 {
     if sets[n - 1] == 0 {
         return cells[a][b];
@@ -94,7 +94,7 @@ pub fn meet<'a>(n: usize, sets: &'a [u64; WORDS], cells: &'a [[u8; 64]], a: usiz
 pub fn join<'a>(n: usize, sets: &'a [u64; WORDS], cells: &'a [[u8; 64]], a: usize, b: usize) -> u8
     requires a_lt_n { (a < n) × (b < n) × (n ≤ 64) }
     requires seekable { Seekable true n sets.now cells.now }
-    ensures { result ≡ joinIn n sets.now cells.now a b }
+    ensures { result ≡ join_in n sets.now cells.now a b }
 {
     if sets[n - 1] == 0 {
         return cells[a][b];

@@ -8,24 +8,24 @@ use Rattle.acceptance.specs.declared.TableFault.{TableFault}
 use Rattle.acceptance.specs.declared.Opened.{Opened}
 use Rattle.acceptance.specs.declared.Opened.TheVariants as opened
 use Rattle.acceptance.specs.Reply as table
-use Rattle.graphs.specs.Difference.{byReading}
-use Rattle.link_orders.specs.LinkOrders.{isReadingOrder}
-use Rattle.record.specs.Appropriate.{listAccepted, readingAppropriate}
+use Rattle.graphs.specs.Difference.{by_reading}
+use Rattle.link_orders.specs.LinkOrders.{is_reading_order}
+use Rattle.record.specs.Appropriate.{list_accepted, reading_appropriate}
 use Rattle.replies.specs.declared.Reply.{Reply}
 use Rattle.replies.specs.declared.Reply.TheVariants.{Table, TypeList, ReadingOrder}
 use Rattle.replies.specs.Reply.{Result, refusing}
-use Rattle.pairs.specs.Pair.{readBoth}
+use Rattle.pairs.specs.Pair.{read_both}
 use Rattle.engine.specs.Rewriting.{rewritten}
 use Rattle.engine.specs.Generalizing.{generalized}
-use Rattle.calls.specs.Calls.{checkedList, differingBy}
-use Rattle.engine.specs.Unifying.{unifiedRows}
+use Rattle.calls.specs.Calls.{checked_list, differing_by}
+use Rattle.engine.specs.Unifying.{unified_rows}
 use Rattle.engine.specs.Differing.{parting}
-use Rattle.calls.specs.Appropriate.{rewritingAppropriate, generalizingAppropriate, unifyingAppropriate}
+use Rattle.calls.specs.Appropriate.{rewriting_appropriate, generalizing_appropriate, unifying_appropriate}
 use Rattle.calls.proofs.Tables.{table-refused, table-accepted}
 
 -- A call checks the table, then the list, and then goes on with `next`.
 pub record Checks (n : ℕ) (t : List ℕ) (listed : Bool) (wrong : Reply) (out : List ℕ) (call next : Result) : Type 0 where
-  pub is : call ≡ checkedList n t listed wrong out next
+  pub is : call ≡ checked_list n t listed wrong out next
 
 module _ {n : ℕ} {t : List ℕ} {listed : Bool} {wrong : Reply} {out : List ℕ} {call next : Result}
     (checks : Checks n t listed wrong out call next) where
@@ -65,24 +65,24 @@ module _ {n : ℕ} {t : List ℕ} {listed : Bool} {wrong : Reply} {out : List �
 -- The calls with a list of types for features.
 module _ (n : ℕ) (t list out : List ℕ) where
   pub rewriting-checked : (bytes : List ℕ) →
-      Checks n t (listAccepted n list) TypeList out (rewritingAppropriate n t list bytes out) (rewritten (readingAppropriate n t list bytes) out)
-  unfolding rewritingAppropriate
+      Checks n t (list_accepted n list) TypeList out (rewriting_appropriate n t list bytes out) (rewritten (reading_appropriate n t list bytes) out)
+  unfolding rewriting_appropriate
   rewriting-checked bytes = record { is = refl }
 
   pub generalizing-checked : (a b : List ℕ) →
-      Checks n t (listAccepted n list) TypeList out (generalizingAppropriate n t list a b out)
-      (readBoth (λ r. refusing r out) (readingAppropriate n t list a) (readingAppropriate n t list b) (generalized n t out))
-  unfolding generalizingAppropriate
+      Checks n t (list_accepted n list) TypeList out (generalizing_appropriate n t list a b out)
+      (read_both (λ r. refusing r out) (reading_appropriate n t list a) (reading_appropriate n t list b) (generalized n t out))
+  unfolding generalizing_appropriate
   generalizing-checked a b = record { is = refl }
 
   pub unifying-checked : (a b : List ℕ) →
-      Checks n t (listAccepted n list) TypeList out (unifyingAppropriate n t list a b out)
-      (readBoth (λ r. refusing r out) (readingAppropriate n t list a) (readingAppropriate n t list b) (unifiedRows n t out))
-  unfolding unifyingAppropriate
+      Checks n t (list_accepted n list) TypeList out (unifying_appropriate n t list a b out)
+      (read_both (λ r. refusing r out) (reading_appropriate n t list a) (reading_appropriate n t list b) (unified_rows n t out))
+  unfolding unifying_appropriate
   unifying-checked a b = record { is = refl }
 
 -- The difference with a list of features.
 pub differing-checked : (n : ℕ) (t list a b out : List ℕ) →
-    Checks n t (isReadingOrder list) ReadingOrder out (differingBy n t list a b out) (parting (byReading list) n t a b out)
-unfolding differingBy
+    Checks n t (is_reading_order list) ReadingOrder out (differing_by n t list a b out) (parting (by_reading list) n t a b out)
+unfolding differing_by
 differing-checked n t list a b out = record { is = refl }

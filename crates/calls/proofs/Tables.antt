@@ -9,7 +9,7 @@ use Rattle.acceptance.specs.Reply as table
 use Rattle.record.specs.Read.{reading}
 use Rattle.replies.specs.declared.Reply.{Reply}
 use Rattle.replies.specs.declared.Reply.TheVariants.{Length, Table}
-use Rattle.pairs.specs.Pair.{readBoth}
+use Rattle.pairs.specs.Pair.{read_both}
 use Rattle.orders.specs.Ordering.{ordered}
 use Rattle.calls.specs.Calls.{checked, checking, ordering}
 
@@ -26,13 +26,13 @@ module _ (n : ℕ) (t a b : List ℕ) where
   pub ordering-refused : (fault : TableFault) → table.opened n t ≡ opened.Refused fault → Table fault ≡ ordering n t a b
   unfolding ordering
   ordering-refused fault e =
-      sym (table-refused (λ r. r) (readBoth (λ r. r) (reading n a) (reading n b) (ordered n t)) fault e)
+      sym (table-refused (λ r. r) (read_both (λ r. r) (reading n a) (reading n b) (ordered n t)) fault e)
 
   pub ordering-accepted : {r : Reply} → table.opened n t ≡ opened.Accepted →
-      r ≡ readBoth (λ r. r) (reading n a) (reading n b) (ordered n t) → r ≡ ordering n t a b
+      r ≡ read_both (λ r. r) (reading n a) (reading n b) (ordered n t) → r ≡ ordering n t a b
   unfolding ordering
   ordering-accepted e h =
-      h ∙ sym (table-accepted (λ r. r) (readBoth (λ r. r) (reading n a) (reading n b) (ordered n t)) e)
+      h ∙ sym (table-accepted (λ r. r) (read_both (λ r. r) (reading n a) (reading n b) (ordered n t)) e)
 
 -- A table alone.
 module _ (n : ℕ) (t : List ℕ) where

@@ -3,9 +3,9 @@
 
 ghost use Rattle.std.specs.Prelude.{◌≡◌};
 ghost use Rattle.replies.specs.Reply.{resulting};
-ghost use Rattle.difference.specs.Explained.{explainedResult};
-ghost use Rattle.calls.specs.Calls.{differing, differingBy};
-ghost use Rattle.calls.specs.Explained.{explaining, explainingBy, differingWith, differingByWith};
+ghost use Rattle.difference.specs.Explained.{explained_result};
+ghost use Rattle.calls.specs.Calls.{differing, differing_by};
+ghost use Rattle.calls.specs.Explained.{explaining, explaining_by, differing_with, differing_by_with};
 
 use acceptance::Opened;
 use difference::Options;
@@ -28,7 +28,7 @@ pub fn difference_by(
     second: &[u8],
     out: &mut [u8],
 ) -> Reply
-    ensures { resulting result out.new ≡ differingBy n table.now list.now first.now second.now out.old }
+    ensures { resulting result out.new ≡ differing_by n table.now list.now first.now second.now out.old }
 {
     let mut none = [0u8; 0];
     difference_by_with(n, table, list, false, first, second, out, &mut none)
@@ -43,7 +43,7 @@ pub fn difference_explained(
     out: &mut [u8],
     reasons: &mut [u8],
 ) -> Reply
-    ensures { explainedResult result out.new reasons.new ≡
+    ensures { explained_result result out.new reasons.new ≡
         explaining n table.now first.now second.now out.old reasons.old }
 {
     difference_with(n, table, true, first, second, out, reasons)
@@ -59,8 +59,8 @@ pub fn difference_explained_by(
     out: &mut [u8],
     reasons: &mut [u8],
 ) -> Reply
-    ensures { explainedResult result out.new reasons.new ≡
-        explainingBy n table.now list.now first.now second.now out.old reasons.old }
+    ensures { explained_result result out.new reasons.new ≡
+        explaining_by n table.now list.now first.now second.now out.old reasons.old }
 {
     difference_by_with(n, table, list, true, first, second, out, reasons)
 }
@@ -75,8 +75,8 @@ fn difference_with(
     out: &mut [u8],
     reasons: &mut [u8],
 ) -> Reply
-    ensures { explainedResult result out.new reasons.new ≡
-        differingWith explained n table.now first.now second.now out.old reasons.old }
+    ensures { explained_result result out.new reasons.new ≡
+        differing_with explained n table.now first.now second.now out.old reasons.old }
 {
     let opened = acceptance::accept(n, table);
     match opened {
@@ -100,8 +100,8 @@ fn difference_by_with(
     out: &mut [u8],
     reasons: &mut [u8],
 ) -> Reply
-    ensures { explainedResult result out.new reasons.new ≡
-        differingByWith explained n table.now list.now first.now second.now out.old reasons.old }
+    ensures { explained_result result out.new reasons.new ≡
+        differing_by_with explained n table.now list.now first.now second.now out.old reasons.old }
 {
     let opened = acceptance::accept(n, table);
     match opened {

@@ -4,8 +4,8 @@
 ghost use Rattle.std.specs.Prelude.{◌≡◌, false, length};
 ghost use Rattle.replies.specs.Reply.{resulting};
 ghost use Rattle.calls.specs.Calls.{rewriting};
-ghost use Rattle.calls.specs.Appropriate.{rewritingAppropriate};
-ghost use Rattle.calls.specs.Beside.{rewritingBeside};
+ghost use Rattle.calls.specs.Appropriate.{rewriting_appropriate};
+ghost use Rattle.calls.specs.Beside.{rewriting_beside};
 
 use acceptance::Opened;
 use replies::Reply;
@@ -25,7 +25,7 @@ pub fn rewrite_appropriate(
     bytes: &[u8],
     out: &mut [u8],
 ) -> Reply
-    ensures { resulting result out.new ≡ rewritingAppropriate n table.now list.now bytes.now out.old }
+    ensures { resulting result out.new ≡ rewriting_appropriate n table.now list.now bytes.now out.old }
 {
     rewrite_beside(n, table, true, list, bytes, out)
 }
@@ -40,7 +40,7 @@ fn rewrite_beside(
     out: &mut [u8],
 ) -> Reply
     requires { listed ≡ false → length list.now ≡ 0 }
-    ensures { resulting result out.new ≡ rewritingBeside n table.now listed list.now bytes.now out.old }
+    ensures { resulting result out.new ≡ rewriting_beside n table.now listed list.now bytes.now out.old }
 {
     let opened = acceptance::accept(n, table);
     match opened {

@@ -5,8 +5,8 @@ ghost use Rattle.std.specs.Prelude.{◌≡◌, false, length};
 ghost use Rattle.bounds.specs.Opening.{CellsNeeded};
 ghost use Rattle.replies.specs.Reply.{resulting};
 ghost use Rattle.calls.specs.Calls.{unifying};
-ghost use Rattle.calls.specs.Appropriate.{unifyingAppropriate};
-ghost use Rattle.calls.specs.Beside.{unifyingBeside};
+ghost use Rattle.calls.specs.Appropriate.{unifying_appropriate};
+ghost use Rattle.calls.specs.Beside.{unifying_beside};
 
 use acceptance::Opened;
 use bounds::Form;
@@ -28,7 +28,7 @@ pub fn unify_appropriate(
     second: &[u8],
     out: &mut [u8],
 ) -> Reply
-    ensures { resulting result out.new ≡ unifyingAppropriate n table.now list.now first.now second.now out.old }
+    ensures { resulting result out.new ≡ unifying_appropriate n table.now list.now first.now second.now out.old }
 {
     unify_beside(n, table, true, list, first, second, out)
 }
@@ -45,7 +45,7 @@ fn unify_beside(
 ) -> Reply
     requires { listed ≡ false → length list.now ≡ 0 }
     ensures { resulting result out.new ≡
-        unifyingBeside n table.now listed list.now first.now second.now out.old }
+        unifying_beside n table.now listed list.now first.now second.now out.old }
 {
     let mut sets = [0u64; bounds::sets::WORDS];
     let form = bounds::choose(n, table, false, &mut sets);
@@ -75,7 +75,7 @@ fn unify_by_cells<'a>(
 ) -> Reply
     requires { CellsNeeded n table.now sets.now × (listed ≡ false → length list.now ≡ 0) }
     ensures { resulting result out.new ≡
-        unifyingBeside n table.now listed list.now first.now second.now out.old }
+        unifying_beside n table.now listed list.now first.now second.now out.old }
 {
     let mut cells = [[0u8; 64]; 64];
     let opened = bounds::fill(n, table, false, &mut cells);

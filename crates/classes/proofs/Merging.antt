@@ -10,16 +10,16 @@ use native.Mathlib.Numerals.{add-one}
 use native.Mathlib.Omega.{arith}
 use borrow.Author.Tests.{lt-ltb, le-ltb}
 use lib.ListN.{length, get_or, set, length-set}
-use Rattle.layout.specs.Layout.{scale, featureAt, targetAt}
-use Rattle.classes.specs.Merge.{Places, Span, Merged, featureOr, pairWord, left_at, rightAt}
+use Rattle.layout.specs.Layout.{scale, feature_at, target_at}
+use Rattle.classes.specs.Merge.{Places, Span, Merged, feature_or, pair_word, left_at, right_at}
 use Rattle.classes.proofs.Roots.{stored, unstored}
 
 -- The feature at a place inside a row, and past its end.
-pub feature-in : (ws : List ℕ) (k end : ℕ) → k < end → featureOr ws k end ≡ featureAt ws k
-feature-in ws k end h = ap (λ (t : Bool). cond t (featureAt ws k) 64) (lt-ltb k end h)
+pub feature-in : (ws : List ℕ) (k end : ℕ) → k < end → feature_or ws k end ≡ feature_at ws k
+feature-in ws k end h = ap (λ (t : Bool). cond t (feature_at ws k) 64) (lt-ltb k end h)
 
-pub feature-out : (ws : List ℕ) (k end : ℕ) → end ≤ k → featureOr ws k end ≡ 64
-feature-out ws k end h = ap (λ (t : Bool). cond t (featureAt ws k) 64) (le-ltb k end h)
+pub feature-out : (ws : List ℕ) (k end : ℕ) → end ≤ k → feature_or ws k end ≡ 64
+feature-out ws k end h = ap (λ (t : Bool). cond t (feature_at ws k) 64) (le-ltb k end h)
 
 -- Equal words have equal features and targets.
 pub feature-same : {v w : ℕ} → v ≡ w → v / scale ≡ w / scale
@@ -29,10 +29,10 @@ pub target-same : {v w : ℕ} → v ≡ w → v % scale ≡ w % scale
 target-same e = ap (λ (n : ℕ). n % scale) e
 
 -- The two nodes of a pair by the pair's word.
-pair_left : (x y : ℕ) → y < scale → pairWord x y / scale ≡ x
+pair_left : (x y : ℕ) → y < scale → pair_word x y / scale ≡ x
 pair_left x y h = omega arith
 
-pair-right : (x y : ℕ) → y < scale → pairWord x y % scale ≡ y
+pair-right : (x y : ℕ) → y < scale → pair_word x y % scale ≡ y
 pair-right x y h = omega arith
 
 module _ (a₀ a₁ b₀ b₁ : ℕ) (ws ps : List ℕ) (used count : ℕ) where
@@ -51,8 +51,8 @@ module _ (a₀ a₁ b₀ b₁ : ℕ) (ws ps : List ℕ) (used count : ℕ) where
     pub a-high : i ≤ a₁
     pub b-low : b₀ ≤ j
     pub b-high : j ≤ b₁
-    pub under-a : (k : ℕ) → used ≤ k → k < at → i < a₁ → featureAt ws' k < featureAt ws i
-    pub under-b : (k : ℕ) → used ≤ k → k < at → j < b₁ → featureAt ws' k < featureAt ws j
+    pub under-a : (k : ℕ) → used ≤ k → k < at → i < a₁ → feature_at ws' k < feature_at ws i
+    pub under-b : (k : ℕ) → used ≤ k → k < at → j < b₁ → feature_at ws' k < feature_at ws j
     pub pairs : top + b₀ ≤ count + j
 
   -- Nothing is merged yet.
@@ -97,34 +97,34 @@ module _ (a₀ a₁ b₀ b₁ : ℕ) (ws ps : List ℕ) (used count : ℕ) where
   -- What one more link is: its word w and feature f, the places i' and j' that are merged after it, and the pairs.
   record Link (ws' ps' : List ℕ) (i j at top : ℕ) (w f i' j' : ℕ) (ps'' : List ℕ) (top' : ℕ) : Type 0 where
     feature : w / scale ≡ f
-    above : (k : ℕ) → used ≤ k → k < at → featureAt ws' k < f
+    above : (k : ℕ) → used ≤ k → k < at → feature_at ws' k < f
     a-next : i ≤ i'
     a-most : i' ≤ a₁
-    a-above : i' < a₁ → f < featureAt ws i'
+    a-above : i' < a₁ → f < feature_at ws i'
     b-next : j ≤ j'
     b-most : j' ≤ b₁
-    b-above : j' < b₁ → f < featureAt ws j'
+    b-above : j' < b₁ → f < feature_at ws j'
     one : i' + j' + top ≡ suc (i + j) + top'
     paired : top' + j ≤ top + j'
     origin : (p : ℕ) × (((a₀ ≤ p) × (p < i')) ⊎ ((b₀ ≤ p) × (p < j'))) × (w ≡ get_or ws p 0)
     in-a : (p : ℕ) → i ≤ p → p < i' → w ≡ get_or ws p 0
     in_b : (p : ℕ) → j ≤ p → p < j' →
-        (f ≡ featureAt ws p) ×
-        ((w % scale ≡ targetAt ws p) ⊎
-        ((q : ℕ) × (top ≤ q) × (q < top') × (left_at ps'' q ≡ w % scale) × (rightAt ps'' q ≡ targetAt ws p)))
+        (f ≡ feature_at ws p) ×
+        ((w % scale ≡ target_at ws p) ⊎
+        ((q : ℕ) × (top ≤ q) × (q < top') × (left_at ps'' q ≡ w % scale) × (right_at ps'' q ≡ target_at ws p)))
     ps-long : length ps'' ≡ length ps'
     grows : top ≤ top'
     ps-kept : (q : ℕ) → q < top → get_or ps'' q 0 ≡ get_or ps' q 0
     pair : (q : ℕ) → top ≤ q → q < top' →
-        (p : ℕ) × (r : ℕ) × (a₀ ≤ p) × (p < i') × (b₀ ≤ r) × (r < j') × (featureAt ws p ≡ featureAt ws r) ×
-        (left_at ps'' q ≡ targetAt ws p) × (rightAt ps'' q ≡ targetAt ws r)
+        (p : ℕ) × (r : ℕ) × (a₀ ≤ p) × (p < i') × (b₀ ≤ r) × (r < j') × (feature_at ws p ≡ feature_at ws r) ×
+        (left_at ps'' q ≡ target_at ws p) × (right_at ps'' q ≡ target_at ws r)
 
   module _ {ws' ps' : List ℕ} {i j at top : ℕ} (s : Merging ws' ps' i j at top) where
     abbrev m : Merged a₀ i b₀ j ws ps used count ws' ps' at top
     m = s.merged
 
     -- The row takes no more places than the next feature counts.
-    room : (f : ℕ) → ((k : ℕ) → used ≤ k → k < at → featureAt ws' k < f) → at ≤ used + f
+    room : (f : ℕ) → ((k : ℕ) → used ≤ k → k < at → feature_at ws' k < f) → at ≤ used + f
     room f above = go at refl
       where
         go : (n : ℕ) → n ≡ at → at ≤ used + f
@@ -174,23 +174,23 @@ module _ (a₀ a₁ b₀ b₁ : ℕ) (ws ps : List ℕ) (used count : ℕ) where
         new : (k : ℕ) → k ≡ at → get_or (set ws' at w) k 0 ≡ w
         new k e = ap (λ (n : ℕ). get_or (set ws' at w) n 0) e ∙ stored ws' at w space
 
-        f-old : (k : ℕ) → k < at → featureAt (set ws' at w) k ≡ featureAt ws' k
+        f-old : (k : ℕ) → k < at → feature_at (set ws' at w) k ≡ feature_at ws' k
         f-old k h = feature-same (old k h)
 
-        f-new : (k : ℕ) → k ≡ at → featureAt (set ws' at w) k ≡ f
+        f-new : (k : ℕ) → k ≡ at → feature_at (set ws' at w) k ≡ f
         f-new k e = feature-same (new k e) ∙ link.feature
 
-        most : (k : ℕ) → used ≤ k → k < suc at → Dec (k < at) → featureAt (set ws' at w) k ≤ f
+        most : (k : ℕ) → used ≤ k → k < suc at → Dec (k < at) → feature_at (set ws' at w) k ≤ f
         most k low high (yes h) = omega (arith, f-old k h, link.above k low h)
         most k low high (no h) = omega (arith, f-new k (omega arith))
 
         ascending : (k : ℕ) → used ≤ k → suc k < suc at → Dec (suc k < at) →
-            featureAt (set ws' at w) k < featureAt (set ws' at w) (suc k)
+            feature_at (set ws' at w) k < feature_at (set ws' at w) (suc k)
         ascending k low high (yes h) = omega (arith, f-old k (omega arith), f-old (suc k) h, m.ascending k low h)
         ascending k low high (no h) =
             omega (arith, f-old k (omega arith), f-new (suc k) (omega arith), link.above k low (omega arith))
 
-        short : (k : ℕ) → used ≤ k → k < suc at → Dec (k < at) → k ≤ used + featureAt (set ws' at w) k
+        short : (k : ℕ) → used ≤ k → k < suc at → Dec (k < at) → k ≤ used + feature_at (set ws' at w) k
         short k low high (yes h) = omega (arith, f-old k h, m.short k low h)
         short k low high (no h) = omega (arith, f-new k (omega arith), room f link.above)
 
@@ -206,8 +206,8 @@ module _ (a₀ a₁ b₀ b₁ : ℕ) (ws ps : List ℕ) (used count : ℕ) where
         source k low high (no h) = let (p, side, e) = link.origin in (p, side, new k (omega arith) ∙ e)
 
         pair : (q : ℕ) → count ≤ q → q < top' → Dec (q < top) →
-            (p : ℕ) × (r : ℕ) × (a₀ ≤ p) × (p < i') × (b₀ ≤ r) × (r < j') × (featureAt ws p ≡ featureAt ws r) ×
-            (left_at ps'' q ≡ targetAt ws p) × (rightAt ps'' q ≡ targetAt ws r)
+            (p : ℕ) × (r : ℕ) × (a₀ ≤ p) × (p < i') × (b₀ ≤ r) × (r < j') × (feature_at ws p ≡ feature_at ws r) ×
+            (left_at ps'' q ≡ target_at ws p) × (right_at ps'' q ≡ target_at ws r)
         pair q low high (yes h) =
             let (p, r, a, b, c, d, e, x, y) = m.pair q low h in (
               p,
@@ -228,17 +228,17 @@ module _ (a₀ a₁ b₀ b₁ : ℕ) (ws ps : List ℕ) (used count : ℕ) where
         first p low high (no h) = (at, m.rises, omega arith, new at refl ∙ link.in-a p (omega arith) high)
 
         second : (p : ℕ) → b₀ ≤ p → p < j' → Dec (p < j) →
-            (k : ℕ) × (used ≤ k) × (k < suc at) × (featureAt (set ws' at w) k ≡ featureAt ws p) ×
-            ((targetAt (set ws' at w) k ≡ targetAt ws p) ⊎
-            ((q : ℕ) × (count ≤ q) × (q < top') × (left_at ps'' q ≡ targetAt (set ws' at w) k) × (rightAt ps'' q ≡ targetAt ws p)))
+            (k : ℕ) × (used ≤ k) × (k < suc at) × (feature_at (set ws' at w) k ≡ feature_at ws p) ×
+            ((target_at (set ws' at w) k ≡ target_at ws p) ⊎
+            ((q : ℕ) × (count ≤ q) × (q < top') × (left_at ps'' q ≡ target_at (set ws' at w) k) × (right_at ps'' q ≡ target_at ws p)))
         second p low high (yes h) =
             let (k, a, b, e, d) = m.second p low h in (
               k,
               a,
               omega arith,
               f-old k b ∙ e,
-              ⊎_elim (λ (z : targetAt ws' k ≡ targetAt ws p). inl (target-same (old k b) ∙ z))
-                  (λ (z : (q : ℕ) × (count ≤ q) × (q < top) × (left_at ps' q ≡ targetAt ws' k) × (rightAt ps' q ≡ targetAt ws p)).
+              ⊎_elim (λ (z : target_at ws' k ≡ target_at ws p). inl (target-same (old k b) ∙ z))
+                  (λ (z : (q : ℕ) × (count ≤ q) × (q < top) × (left_at ps' q ≡ target_at ws' k) × (right_at ps' q ≡ target_at ws p)).
                   inr (z.0, z.1, omega (arith, z.2, link.grows), feature-same (link.ps-kept z.0 z.2) ∙ z.3 ∙ sym (target-same (old k b)), target-same (link.ps-kept z.0 z.2) ∙ z.4))
                   d,
             )
@@ -248,13 +248,13 @@ module _ (a₀ a₁ b₀ b₁ : ℕ) (ws ps : List ℕ) (used count : ℕ) where
               m.rises,
               omega arith,
               f-new at refl ∙ e,
-              ⊎_elim (λ (z : w % scale ≡ targetAt ws p). inl (target-same (new at refl) ∙ z))
-                  (λ (z : (q : ℕ) × (top ≤ q) × (q < top') × (left_at ps'' q ≡ w % scale) × (rightAt ps'' q ≡ targetAt ws p)).
+              ⊎_elim (λ (z : w % scale ≡ target_at ws p). inl (target-same (new at refl) ∙ z))
+                  (λ (z : (q : ℕ) × (top ≤ q) × (q < top') × (left_at ps'' q ≡ w % scale) × (right_at ps'' q ≡ target_at ws p)).
                   inr (z.0, omega (arith, z.1, m.grows), z.2, z.3 ∙ sym (target-same (new at refl)), z.4)) d,
             )
 
     -- The three ways to go on: f and g are the next features of the two rows, 64 past a row's end.
-    module _ {f g : ℕ} (f-is : f ≡ featureOr ws' i a₁) (g-is : g ≡ featureOr ws' j b₁) where
+    module _ {f g : ℕ} (f-is : f ≡ feature_or ws' i a₁) (g-is : g ≡ feature_or ws' j b₁) where
       abbrev a : Span ws used a₀ a₁
       a = s.asked.a
 
@@ -267,10 +267,10 @@ module _ (a₀ a₁ b₀ b₁ : ℕ) (ws ps : List ℕ) (used count : ℕ) where
       b-word : j < b₁ → get_or ws' j 0 ≡ get_or ws j 0
       b-word h = m.pool-kept j (omega (arith, b.before))
 
-      f-in : i < a₁ → f ≡ featureAt ws i
+      f-in : i < a₁ → f ≡ feature_at ws i
       f-in h = f-is ∙ feature-in ws' i a₁ h ∙ feature-same (a_word h)
 
-      g-in : j < b₁ → g ≡ featureAt ws j
+      g-in : j < b₁ → g ≡ feature_at ws j
       g-in h = g-is ∙ feature-in ws' j b₁ h ∙ feature-same (b-word h)
 
       f-most : (f ≤ 64) × (f < 64 → i < a₁)
@@ -288,14 +288,14 @@ module _ (a₀ a₁ b₀ b₁ : ℕ) (ws ps : List ℕ) (used count : ℕ) where
           go (no h) = let e : g ≡ 64 = g-is ∙ feature-out ws' j b₁ (omega arith) in (omega arith, λ l. absurd (omega arith))
 
       -- There is a next place.
-      space : i + j < a₁ + b₁ → (h : ℕ) → h < 64 → ((k : ℕ) → used ≤ k → k < at → featureAt ws' k < h) → at < length ws'
+      space : i + j < a₁ + b₁ → (h : ℕ) → h < 64 → ((k : ℕ) → used ≤ k → k < at → feature_at ws' k < h) → at < length ws'
       space left h small above =
           omega (arith, m.pool-long, s.asked.places at (omega (arith, room h above)) (omega (arith, m.counted, m.grows)))
 
-      over-f : i < a₁ → (k : ℕ) → used ≤ k → k < at → featureAt ws' k < f
+      over-f : i < a₁ → (k : ℕ) → used ≤ k → k < at → feature_at ws' k < f
       over-f h k low high = omega (arith, f-in h, s.under-a k low high h)
 
-      over-g : j < b₁ → (k : ℕ) → used ≤ k → k < at → featureAt ws' k < g
+      over-g : j < b₁ → (k : ℕ) → used ≤ k → k < at → feature_at ws' k < g
       over-g h k low high = omega (arith, g-in h, s.under-b k low high h)
 
       -- The places of either row are inside the pool.
@@ -373,7 +373,7 @@ module _ (a₀ a₁ b₀ b₁ : ℕ) (ws ps : List ℕ) (used count : ℕ) where
             in-a = λ p low high. absurd (omega arith);
             in_b = λ p low high.
                 let e : j ≡ p = omega arith in
-                (g-in l ∙ ap (λ (n : ℕ). featureAt ws n) e, inl (target-same (b-word l) ∙ ap (λ (n : ℕ). targetAt ws n) e));
+                (g-in l ∙ ap (λ (n : ℕ). feature_at ws n) e, inl (target-same (b-word l) ∙ ap (λ (n : ℕ). target_at ws n) e));
             ps-long = refl;
             grows = omega arith;
             ps-kept = λ q h. refl;
@@ -386,7 +386,7 @@ module _ (a₀ a₁ b₀ b₁ : ℕ) (ws ps : List ℕ) (used count : ℕ) where
       pub pair-room : i + j < a₁ + b₁ → f ≡ g → top < length ps'
       pair-room left e = omega (arith, (both-in left e).1, s.pairs, s.asked.room, m.waiting-long)
 
-      pub merge-both : i + j < a₁ + b₁ → f ≡ g → {w : ℕ} → w ≡ pairWord (targetAt ws' i) (targetAt ws' j) →
+      pub merge-both : i + j < a₁ + b₁ → f ≡ g → {w : ℕ} → w ≡ pair_word (target_at ws' i) (target_at ws' j) →
           Merging (set ws' at (get_or ws' i 0)) (set ps' top w) (i + 1) (j + 1) (at + 1) (top + 1)
       merge-both left e {w} word =
           rw (add-one i, add-one j, add-one at, add-one top)
@@ -406,8 +406,8 @@ module _ (a₀ a₁ b₀ b₁ : ℕ) (ws ps : List ℕ) (used count : ℕ) where
             in-a = λ p low high. let q : i ≡ p = omega arith in a_word l ∙ ap (λ (n : ℕ). get_or ws n 0) q;
             in_b = λ p low high.
                 let q : j ≡ p = omega arith in (
-                  e ∙ g-in k ∙ ap (λ (n : ℕ). featureAt ws n) q,
-                  inr (top, omega arith, omega arith, left-new, right_new ∙ target-same (b-word k) ∙ ap (λ (n : ℕ). targetAt ws n) q),
+                  e ∙ g-in k ∙ ap (λ (n : ℕ). feature_at ws n) q,
+                  inr (top, omega arith, omega arith, left-new, right_new ∙ target-same (b-word k) ∙ ap (λ (n : ℕ). target_at ws n) q),
                 );
             ps-long = length-set ps' top w;
             grows = omega arith;
@@ -422,7 +422,7 @@ module _ (a₀ a₁ b₀ b₁ : ℕ) (ws ps : List ℕ) (used count : ℕ) where
                   omega arith,
                   sym (f-in l) ∙ e ∙ g-in k,
                   ap (λ (n : ℕ). left_at (set ps' top w) n) z ∙ left-new ∙ target-same (a_word l),
-                  ap (λ (n : ℕ). rightAt (set ps' top w) n) z ∙ right_new ∙ target-same (b-word k),
+                  ap (λ (n : ℕ). right_at (set ps' top w) n) z ∙ right_new ∙ target-same (b-word k),
                 );
           }))
         where
@@ -432,16 +432,16 @@ module _ (a₀ a₁ b₀ b₁ : ℕ) (ws ps : List ℕ) (used count : ℕ) where
           k : j < b₁
           k = (both-in left e).1
 
-          left-new : left_at (set ps' top w) top ≡ targetAt ws' i
-          left-new = feature-same (stored ps' top w (pair-room left e) ∙ word) ∙ pair_left (targetAt ws' i) (targetAt ws' j) (omega arith)
+          left-new : left_at (set ps' top w) top ≡ target_at ws' i
+          left-new = feature-same (stored ps' top w (pair-room left e) ∙ word) ∙ pair_left (target_at ws' i) (target_at ws' j) (omega arith)
 
-          right_new : rightAt (set ps' top w) top ≡ targetAt ws' j
-          right_new = target-same (stored ps' top w (pair-room left e) ∙ word) ∙ pair-right (targetAt ws' i) (targetAt ws' j) (omega arith)
+          right_new : right_at (set ps' top w) top ≡ target_at ws' j
+          right_new = target-same (stored ps' top w (pair-room left e) ∙ word) ∙ pair-right (target_at ws' i) (target_at ws' j) (omega arith)
 
 -- What is merged.
 module _ {a₀ a₁ b₀ b₁ : ℕ} {ws ps : List ℕ} {used count : ℕ} {ws' ps' : List ℕ} {at top : ℕ}
     (m : Merged a₀ a₁ b₀ b₁ ws ps used count ws' ps' at top) (a : Span ws used a₀ a₁) (b : Span ws used b₀ b₁) where
-  pub merged-known : (k : ℕ) → used ≤ k → k < at → featureAt ws' k < 64
+  pub merged-known : (k : ℕ) → used ≤ k → k < at → feature_at ws' k < 64
   merged-known k low high =
       let (p, side, same) = m.source k low high in
       omega (

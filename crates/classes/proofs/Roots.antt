@@ -11,7 +11,7 @@ use borrow.Author.Tests.{eq-eqb, ne_eqb}
 use lib.Dec.{eqb}
 use lib.ListN.{length, get_or, set, length-set}
 use lib.Seq.{get_or-set_same, get_or-set_other}
-use Rattle.classes.specs.Forest.{climb, rootOf, Forest, SameRoots, United, Flat}
+use Rattle.classes.specs.Forest.{climb, root_of, Forest, SameRoots, United, Flat}
 
 -- A value that is stored in an array of numbers is read back, and the other values stay.
 pub stored : (l : List ℕ) (i a : ℕ) → i < length l → get_or (set l i a) i 0 ≡ a
@@ -79,39 +79,39 @@ module _ {nodes : ℕ} {parent : List ℕ} (forest : Forest nodes parent) where
   climb-constant h keeps (suc k) x small =
       climb-constant h keeps k (get_or parent x 0) (omega (arith, forest.down x small)) ∙ keeps x small
 
-  pub root-low : (x : ℕ) → x < nodes → rootOf parent x ≤ x
-  unfolding rootOf
+  pub root-low : (x : ℕ) → x < nodes → root_of parent x ≤ x
+  unfolding root_of
   root-low x small = climb-low x x small
 
   -- a root is its own parent
-  pub root-fixed : (x : ℕ) → x < nodes → get_or parent (rootOf parent x) 0 ≡ rootOf parent x
-  unfolding rootOf
+  pub root-fixed : (x : ℕ) → x < nodes → get_or parent (root_of parent x) 0 ≡ root_of parent x
+  unfolding root_of
   root-fixed x small = climb-root x x small (omega arith)
 
-  pub fixed-root : (x : ℕ) → get_or parent x 0 ≡ x → rootOf parent x ≡ x
-  unfolding rootOf
+  pub fixed-root : (x : ℕ) → get_or parent x 0 ≡ x → root_of parent x ≡ x
+  unfolding root_of
   fixed-root x e = climb-fixed x x e
 
-  pub root-twice : (x : ℕ) → x < nodes → rootOf parent (rootOf parent x) ≡ rootOf parent x
-  root-twice x small = fixed-root (rootOf parent x) (root-fixed x small)
+  pub root-twice : (x : ℕ) → x < nodes → root_of parent (root_of parent x) ≡ root_of parent x
+  root-twice x small = fixed-root (root_of parent x) (root-fixed x small)
 
-  pub root-up : (x : ℕ) → x < nodes → rootOf parent (get_or parent x 0) ≡ rootOf parent x
-  unfolding rootOf climb
+  pub root-up : (x : ℕ) → x < nodes → root_of parent (get_or parent x 0) ≡ root_of parent x
+  unfolding root_of climb
   root-up x small =
       sym
       (climb-stable x (suc x) x small (omega arith) (omega arith) ∙
       climb-stable x (get_or parent x 0) (get_or parent x 0) (omega (arith, forest.down x small)) (forest.down x small) (omega arith))
 
   pub root-constant : {C : Type 0} (h : ℕ → C) → ((x : ℕ) → x < nodes → h (get_or parent x 0) ≡ h x) → (x : ℕ) → x < nodes →
-      h (rootOf parent x) ≡ h x
-  unfolding rootOf
+      h (root_of parent x) ≡ h x
+  unfolding root_of
   root-constant h keeps x small = climb-constant h keeps x x small
 
 -- A function that every step up keeps, and that keeps roots, gives the roots of a changed forest.
 roots-by : {nodes : ℕ} {later : List ℕ} → Forest nodes later → (h : ℕ → ℕ) → ((x : ℕ) → x < nodes → h (get_or later x 0) ≡ h x) →
-    ((x : ℕ) → x < nodes → get_or later x 0 ≡ x → h x ≡ x) → (x : ℕ) → x < nodes → rootOf later x ≡ h x
+    ((x : ℕ) → x < nodes → get_or later x 0 ≡ x → h x ≡ x) → (x : ℕ) → x < nodes → root_of later x ≡ h x
 roots-by {nodes} {later} forest h keeps fixed x small =
-    sym (fixed (rootOf later x) (omega (arith, root-low forest x small)) (root-fixed forest x small)) ∙
+    sym (fixed (root_of later x) (omega (arith, root-low forest x small)) (root-fixed forest x small)) ∙
     root-constant forest h keeps x small
 
 -- A forest has the same roots as itself.
@@ -122,7 +122,7 @@ same_here forest = record { forest = forest; same = λ x h. refl }
 pub halved : {nodes : ℕ} {parent₀ parent : List ℕ} → SameRoots nodes parent₀ parent → (v : ℕ) → v < nodes → get_or parent v 0 < v →
     SameRoots nodes parent₀ (set parent v (get_or parent (get_or parent v 0) 0))
 halved {nodes} {parent₀} {parent} s v small less =
-    record { forest = forest; same = λ x h. roots-by forest (rootOf parent) keeps fixed x h ∙ s.same x h }
+    record { forest = forest; same = λ x h. roots-by forest (root_of parent) keeps fixed x h ∙ s.same x h }
   where
     up : ℕ
     up = get_or parent (get_or parent v 0) 0
@@ -151,19 +151,19 @@ halved {nodes} {parent₀} {parent} s v small less =
           down = λ x h. down x h (ℕ_discrete x v);
         }
 
-    keeps : (x : ℕ) → x < nodes → rootOf parent (get_or later x 0) ≡ rootOf parent x
+    keeps : (x : ℕ) → x < nodes → root_of parent (get_or later x 0) ≡ root_of parent x
     keeps x h = go (ℕ_discrete x v)
       where
-        go : Dec (x ≡ v) → rootOf parent (get_or later x 0) ≡ rootOf parent x
+        go : Dec (x ≡ v) → root_of parent (get_or later x 0) ≡ root_of parent x
         go (yes e) =
-            ap (λ (z : ℕ). rootOf parent (get_or later z 0)) e ∙ ap (rootOf parent) here ∙
-            root-up s.forest (get_or parent v 0) (omega arith) ∙ root-up s.forest v small ∙ ap (rootOf parent) (sym e)
-        go (no d) = ap (rootOf parent) (elsewhere x d) ∙ root-up s.forest x h
+            ap (λ (z : ℕ). root_of parent (get_or later z 0)) e ∙ ap (root_of parent) here ∙
+            root-up s.forest (get_or parent v 0) (omega arith) ∙ root-up s.forest v small ∙ ap (root_of parent) (sym e)
+        go (no d) = ap (root_of parent) (elsewhere x d) ∙ root-up s.forest x h
 
-    fixed : (x : ℕ) → x < nodes → get_or later x 0 ≡ x → rootOf parent x ≡ x
+    fixed : (x : ℕ) → x < nodes → get_or later x 0 ≡ x → root_of parent x ≡ x
     fixed x h q = go (ℕ_discrete x v)
       where
-        go : Dec (x ≡ v) → rootOf parent x ≡ x
+        go : Dec (x ≡ v) → root_of parent x ≡ x
         go (yes e) = absurd (omega (arith, ap (λ (z : ℕ). get_or later z 0) e, here, lower))
         go (no d) = fixed-root s.forest x (sym (elsewhere x d) ∙ q)
 
@@ -178,8 +178,8 @@ pub joined-other : (lo hi c : ℕ) → (c ≡ hi → ⊥) → joined lo hi c ≡
 joined-other lo hi c d = ap (λ (t : Bool). cond t lo c) (ne_eqb c hi d)
 
 -- One root is put below another.
-module _ {nodes : ℕ} {parent : List ℕ} (forest : Forest nodes parent) (lo hi : ℕ) (less : lo < hi) (small : hi < nodes) (lo-root : rootOf parent lo ≡ lo)
-    (hi-root : rootOf parent hi ≡ hi) where
+module _ {nodes : ℕ} {parent : List ℕ} (forest : Forest nodes parent) (lo hi : ℕ) (less : lo < hi) (small : hi < nodes) (lo-root : root_of parent lo ≡ lo)
+    (hi-root : root_of parent hi ≡ hi) where
   abbrev hung : List ℕ
   hung = set parent hi lo
 
@@ -196,58 +196,58 @@ module _ {nodes : ℕ} {parent : List ℕ} (forest : Forest nodes parent) (lo hi
       down x h (yes e) = omega (arith, ap (λ (z : ℕ). get_or hung z 0) e, hung-here)
       down x h (no d) = omega (arith, hung-other x d, forest.down x h)
 
-  pub hung-roots : (x : ℕ) → x < nodes → rootOf (set parent hi lo) x ≡ joined lo hi (rootOf parent x)
-  hung-roots x h = roots-by hung-forest (λ (z : ℕ). joined lo hi (rootOf parent z)) keeps fixed x h
+  pub hung-roots : (x : ℕ) → x < nodes → root_of (set parent hi lo) x ≡ joined lo hi (root_of parent x)
+  hung-roots x h = roots-by hung-forest (λ (z : ℕ). joined lo hi (root_of parent z)) keeps fixed x h
     where
-      keeps : (x : ℕ) → x < nodes → joined lo hi (rootOf parent (get_or hung x 0)) ≡ joined lo hi (rootOf parent x)
+      keeps : (x : ℕ) → x < nodes → joined lo hi (root_of parent (get_or hung x 0)) ≡ joined lo hi (root_of parent x)
       keeps x h = go (ℕ_discrete x hi)
         where
-          go : Dec (x ≡ hi) → joined lo hi (rootOf parent (get_or hung x 0)) ≡ joined lo hi (rootOf parent x)
+          go : Dec (x ≡ hi) → joined lo hi (root_of parent (get_or hung x 0)) ≡ joined lo hi (root_of parent x)
           go (yes e) =
-              ap (λ (z : ℕ). joined lo hi (rootOf parent (get_or hung z 0))) e ∙
-              ap (λ (z : ℕ). joined lo hi (rootOf parent z)) hung-here ∙ ap (joined lo hi) lo-root ∙
+              ap (λ (z : ℕ). joined lo hi (root_of parent (get_or hung z 0))) e ∙
+              ap (λ (z : ℕ). joined lo hi (root_of parent z)) hung-here ∙ ap (joined lo hi) lo-root ∙
               joined-other lo hi lo (λ q. omega arith) ∙
-              sym (ap (λ (z : ℕ). joined lo hi (rootOf parent z)) e ∙ joined-here lo hi (rootOf parent hi) hi-root)
-          go (no d) = ap (λ (z : ℕ). joined lo hi (rootOf parent z)) (hung-other x d) ∙ ap (joined lo hi) (root-up forest x h)
+              sym (ap (λ (z : ℕ). joined lo hi (root_of parent z)) e ∙ joined-here lo hi (root_of parent hi) hi-root)
+          go (no d) = ap (λ (z : ℕ). joined lo hi (root_of parent z)) (hung-other x d) ∙ ap (joined lo hi) (root-up forest x h)
 
-      fixed : (x : ℕ) → x < nodes → get_or hung x 0 ≡ x → joined lo hi (rootOf parent x) ≡ x
+      fixed : (x : ℕ) → x < nodes → get_or hung x 0 ≡ x → joined lo hi (root_of parent x) ≡ x
       fixed x h q = go (ℕ_discrete x hi)
         where
-          go : Dec (x ≡ hi) → joined lo hi (rootOf parent x) ≡ x
+          go : Dec (x ≡ hi) → joined lo hi (root_of parent x) ≡ x
           go (yes e) = absurd (omega (arith, ap (λ (z : ℕ). get_or hung z 0) e, hung-here))
           go (no d) =
-              let e : rootOf parent x ≡ x = fixed-root forest x (sym (hung-other x d) ∙ q) in
+              let e : root_of parent x ≡ x = fixed-root forest x (sym (hung-other x d) ∙ q) in
               ap (joined lo hi) e ∙ joined-other lo hi x d
 
   -- Putting hi below lo unites the classes of a and b.
-  module _ (a b : ℕ) (a_small : a < nodes) (b-small : b < nodes) (lo-is : lo ≡ rootOf parent a) (hi-is : hi ≡ rootOf parent b) where
+  module _ (a b : ℕ) (a_small : a < nodes) (b-small : b < nodes) (lo-is : lo ≡ root_of parent a) (hi-is : hi ≡ root_of parent b) where
     pub hung-unites : United nodes parent a b (set parent hi lo)
     hung-unites =
         record {
           forest = hung-forest;
           merged =
-              hung-roots a a_small ∙ joined-other lo hi (rootOf parent a) (λ q. omega (arith, lo-is)) ∙ sym lo-is ∙
-              sym (hung-roots b b-small ∙ joined-here lo hi (rootOf parent b) (sym hi-is));
+              hung-roots a a_small ∙ joined-other lo hi (root_of parent a) (λ q. omega (arith, lo-is)) ∙ sym lo-is ∙
+              sym (hung-roots b b-small ∙ joined-here lo hi (root_of parent b) (sym hi-is));
           kept = λ x y h l e. hung-roots x h ∙ ap (joined lo hi) e ∙ sym (hung-roots y l);
           only = λ x y h l e.
-              only x y (ℕ_discrete (rootOf parent x) hi) (ℕ_discrete (rootOf parent y) hi) (sym (hung-roots x h) ∙ e ∙ hung-roots y l);
+              only x y (ℕ_discrete (root_of parent x) hi) (ℕ_discrete (root_of parent y) hi) (sym (hung-roots x h) ∙ e ∙ hung-roots y l);
         }
       where
-        only : (x y : ℕ) → Dec (rootOf parent x ≡ hi) → Dec (rootOf parent y ≡ hi) →
-            joined lo hi (rootOf parent x) ≡ joined lo hi (rootOf parent y) →
-            (rootOf parent x ≡ rootOf parent y) ⊎ ((rootOf parent x ≡ rootOf parent a) × (rootOf parent y ≡ rootOf parent b)) ⊎
-            ((rootOf parent x ≡ rootOf parent b) × (rootOf parent y ≡ rootOf parent a))
+        only : (x y : ℕ) → Dec (root_of parent x ≡ hi) → Dec (root_of parent y ≡ hi) →
+            joined lo hi (root_of parent x) ≡ joined lo hi (root_of parent y) →
+            (root_of parent x ≡ root_of parent y) ⊎ ((root_of parent x ≡ root_of parent a) × (root_of parent y ≡ root_of parent b)) ⊎
+            ((root_of parent x ≡ root_of parent b) × (root_of parent y ≡ root_of parent a))
         only x y (yes p) (yes q) e = inl (p ∙ sym q)
         only x y (yes p) (no q) e =
             inr
             (inr
-            (p ∙ hi-is, sym (joined-other lo hi (rootOf parent y) q) ∙ sym e ∙ joined-here lo hi (rootOf parent x) p ∙ lo-is))
+            (p ∙ hi-is, sym (joined-other lo hi (root_of parent y) q) ∙ sym e ∙ joined-here lo hi (root_of parent x) p ∙ lo-is))
         only x y (no p) (yes q) e =
             inr
             (inl
-            (sym (joined-other lo hi (rootOf parent x) p) ∙ e ∙ joined-here lo hi (rootOf parent y) q ∙ lo-is, q ∙ hi-is))
+            (sym (joined-other lo hi (root_of parent x) p) ∙ e ∙ joined-here lo hi (root_of parent y) q ∙ lo-is, q ∙ hi-is))
         only x y (no p) (no q) e =
-            inl (sym (joined-other lo hi (rootOf parent x) p) ∙ e ∙ joined-other lo hi (rootOf parent y) q)
+            inl (sym (joined-other lo hi (root_of parent x) p) ∙ e ∙ joined-other lo hi (root_of parent y) q)
 
 -- One class of two, in either order, and in a forest with the same roots.
 
@@ -270,19 +270,19 @@ module _ {nodes : ℕ} {parent₀ parent : List ℕ} (s : SameRoots nodes parent
         only = λ x y h l e. only x y h l (u.only x y h l e);
       }
     where
-      to : (x y : ℕ) → x < nodes → y < nodes → rootOf parent x ≡ rootOf parent y → rootOf parent₀ x ≡ rootOf parent₀ y
+      to : (x y : ℕ) → x < nodes → y < nodes → root_of parent x ≡ root_of parent y → root_of parent₀ x ≡ root_of parent₀ y
       to x y h l e = sym (s.same x h) ∙ e ∙ s.same y l
 
       only : (x y : ℕ) → x < nodes → y < nodes →
-          (rootOf parent x ≡ rootOf parent y) ⊎ ((rootOf parent x ≡ rootOf parent a) × (rootOf parent y ≡ rootOf parent b)) ⊎
-          ((rootOf parent x ≡ rootOf parent b) × (rootOf parent y ≡ rootOf parent a)) →
-          (rootOf parent₀ x ≡ rootOf parent₀ y) ⊎ ((rootOf parent₀ x ≡ rootOf parent₀ a) × (rootOf parent₀ y ≡ rootOf parent₀ b)) ⊎
-          ((rootOf parent₀ x ≡ rootOf parent₀ b) × (rootOf parent₀ y ≡ rootOf parent₀ a))
+          (root_of parent x ≡ root_of parent y) ⊎ ((root_of parent x ≡ root_of parent a) × (root_of parent y ≡ root_of parent b)) ⊎
+          ((root_of parent x ≡ root_of parent b) × (root_of parent y ≡ root_of parent a)) →
+          (root_of parent₀ x ≡ root_of parent₀ y) ⊎ ((root_of parent₀ x ≡ root_of parent₀ a) × (root_of parent₀ y ≡ root_of parent₀ b)) ⊎
+          ((root_of parent₀ x ≡ root_of parent₀ b) × (root_of parent₀ y ≡ root_of parent₀ a))
       only x y h l (inl e) = inl (to x y h l e)
       only x y h l (inr (inl (p, q))) = inr (inl (to x a h a_small p, to y b l b-small q))
       only x y h l (inr (inr (p, q))) = inr (inr (to x b h b-small p, to y a l a_small q))
 
-  united-already : rootOf parent₀ a ≡ rootOf parent₀ b → United nodes parent₀ a b parent
+  united-already : root_of parent₀ a ≡ root_of parent₀ b → United nodes parent₀ a b parent
   united-already e =
       record {
         forest = s.forest;
@@ -293,8 +293,8 @@ module _ {nodes : ℕ} {parent₀ parent : List ℕ} (s : SameRoots nodes parent
 
 -- The roots x and y of a and b are found, and the greater is put below the lesser.
 module _ {nodes : ℕ} {parent₀ parent₁ parent : List ℕ} {a b x y : ℕ} (forest₀ : Forest nodes parent₀) (a_small : a < nodes)
-    (b-small : b < nodes) (x-is : x ≡ rootOf parent₀ a) (to-x : (n : ℕ) → Forest n parent₀ → a < n → SameRoots n parent₀ parent₁)
-    (y-is : y ≡ rootOf parent₁ b) (to-y : (n : ℕ) → Forest n parent₁ → b < n → SameRoots n parent₁ parent) where
+    (b-small : b < nodes) (x-is : x ≡ root_of parent₀ a) (to-x : (n : ℕ) → Forest n parent₀ → a < n → SameRoots n parent₀ parent₁)
+    (y-is : y ≡ root_of parent₁ b) (to-y : (n : ℕ) → Forest n parent₁ → b < n → SameRoots n parent₁ parent) where
   first : SameRoots nodes parent₀ parent₁
   first = to-x nodes forest₀ a_small
 
@@ -304,10 +304,10 @@ module _ {nodes : ℕ} {parent₀ parent₁ parent : List ℕ} {a b x y : ℕ} (
   both : SameRoots nodes parent₀ parent
   both = record { forest = second.forest; same = λ z h. second.same z h ∙ first.same z h }
 
-  x-root : x ≡ rootOf parent a
+  x-root : x ≡ root_of parent a
   x-root = x-is ∙ sym (both.same a a_small)
 
-  y-root : y ≡ rootOf parent b
+  y-root : y ≡ root_of parent b
   y-root = y-is ∙ sym (second.same b b-small)
 
   pub unite-bounds : (x < 510) × (y < 510)
@@ -316,11 +316,11 @@ module _ {nodes : ℕ} {parent₀ parent₁ parent : List ℕ} {a b x y : ℕ} (
     omega (arith, y-root, root-low both.forest b b-small, both.forest.few),
   )
 
-  top-x : rootOf parent x ≡ x
-  top-x = ap (rootOf parent) x-root ∙ root-twice both.forest a a_small ∙ sym x-root
+  top-x : root_of parent x ≡ x
+  top-x = ap (root_of parent) x-root ∙ root-twice both.forest a a_small ∙ sym x-root
 
-  top-y : rootOf parent y ≡ y
-  top-y = ap (rootOf parent) y-root ∙ root-twice both.forest b b-small ∙ sym y-root
+  top-y : root_of parent y ≡ y
+  top-y = ap (root_of parent) y-root ∙ root-twice both.forest b b-small ∙ sym y-root
 
   pub unite-below : x < y → United nodes parent₀ a b (set parent y x)
   unite-below h =
@@ -353,7 +353,7 @@ separate-step l n h all x k = go (ℕ_discrete x n)
 -- The nodes below n are put right below their roots.
 pub record Flattening (nodes : ℕ) (parent later : List ℕ) (n : ℕ) : Type 0 where
   pub long : length later ≡ 510
-  pub done : (x : ℕ) → x < n → get_or later x 0 ≡ rootOf parent x
+  pub done : (x : ℕ) → x < n → get_or later x 0 ≡ root_of parent x
   pub left : (x : ℕ) → n ≤ x → get_or later x 0 ≡ get_or parent x 0
 
 pub flat_start : {nodes : ℕ} {parent : List ℕ} → Forest nodes parent → Flattening nodes parent parent 0
@@ -374,45 +374,45 @@ flat_step {nodes} {parent} {later} forest n small f =
     up : get_or later n 0 ≡ get_or parent n 0
     up = f.left n (omega arith)
 
-    value : Dec (get_or parent n 0 < n) → get_or later (get_or later n 0) 0 ≡ rootOf parent n
+    value : Dec (get_or parent n 0 < n) → get_or later (get_or later n 0) 0 ≡ root_of parent n
     value (yes l) =
         ap (λ (z : ℕ). get_or later z 0) up ∙ f.done (get_or parent n 0) l ∙ root-up forest n small
     value (no d) =
         let e : get_or parent n 0 ≡ n = omega (arith, forest.down n small) in
         ap (λ (z : ℕ). get_or later z 0) (up ∙ e) ∙ up ∙ e ∙ sym (fixed-root forest n e)
 
-    done : (x : ℕ) → x < suc n → Dec (x ≡ n) → get_or (set later n (get_or later (get_or later n 0) 0)) x 0 ≡ rootOf parent x
+    done : (x : ℕ) → x < suc n → Dec (x ≡ n) → get_or (set later n (get_or later (get_or later n 0) 0)) x 0 ≡ root_of parent x
     done x h (yes e) =
         ap (λ (z : ℕ). get_or (set later n (get_or later (get_or later n 0) 0)) z 0) e ∙
         stored later n (get_or later (get_or later n 0) 0) (omega (arith, f.long, forest.few)) ∙
-        value (dec_lt (get_or parent n 0) n) ∙ ap (rootOf parent) (sym e)
+        value (dec_lt (get_or parent n 0) n) ∙ ap (root_of parent) (sym e)
     done x h (no d) = unstored later n (get_or later (get_or later n 0) 0) x d ∙ f.done x (omega arith)
 
 -- An array of the roots of a forest is a flat forest with the same roots.
 pub flattened : {nodes : ℕ} {parent later : List ℕ} → Forest nodes parent → length later ≡ 510 →
-    ((x : ℕ) → x < nodes → get_or later x 0 ≡ rootOf parent x) → SameRoots nodes parent later × Flat nodes later
+    ((x : ℕ) → x < nodes → get_or later x 0 ≡ root_of parent x) → SameRoots nodes parent later × Flat nodes later
 flattened {nodes} {parent} {later} forest long e =
     (record { forest = down; same = same }, record { forest = down; near = λ x h. e x h ∙ sym (same x h) })
   where
     down : Forest nodes later
     down = record { few = forest.few; long = long; down = λ x h. omega (arith, e x h, root-low forest x h) }
 
-    same : (x : ℕ) → x < nodes → rootOf later x ≡ rootOf parent x
+    same : (x : ℕ) → x < nodes → root_of later x ≡ root_of parent x
     same x h =
-        roots-by down (rootOf parent) (λ z l. ap (rootOf parent) (e z l) ∙ root-twice forest z l) (λ z l q. sym (e z l) ∙ q) x h
+        roots-by down (root_of parent) (λ z l. ap (root_of parent) (e z l) ∙ root-twice forest z l) (λ z l q. sym (e z l) ∙ q) x h
 
 -- The way up from x has come to v, whose parent is `up`.
 pub record Climbing (nodes : ℕ) (parent₀ : List ℕ) (x : ℕ) (parent : List ℕ) (v up : ℕ) : Type 0 where
   pub roots : SameRoots nodes parent₀ parent
   pub small : v < nodes
   pub above : up ≡ get_or parent v 0
-  pub on-way : rootOf parent₀ v ≡ rootOf parent₀ x
+  pub on-way : root_of parent₀ v ≡ root_of parent₀ x
 
 pub climb-start : {nodes : ℕ} {parent : List ℕ} → Forest nodes parent → (x : ℕ) → x < nodes → Climbing nodes parent x parent x (get_or parent x 0)
 climb-start forest x h = record { roots = same_here forest; small = h; above = refl; on-way = refl }
 
 module _ {nodes : ℕ} {parent₀ : List ℕ} {x : ℕ} {parent : List ℕ} {v up : ℕ} (s : Climbing nodes parent₀ x parent v up) where
-  pub climb-done : v ≤ up → (v ≡ rootOf parent₀ x) × SameRoots nodes parent₀ parent
+  pub climb-done : v ≤ up → (v ≡ root_of parent₀ x) × SameRoots nodes parent₀ parent
   climb-done h =
       let e : get_or parent v 0 ≡ v = omega (arith, s.above, s.roots.forest.down v s.small) in
       (sym (fixed-root s.roots.forest v e) ∙ s.roots.same v s.small ∙ s.on-way, s.roots)
@@ -431,7 +431,7 @@ module _ {nodes : ℕ} {parent₀ : List ℕ} {x : ℕ} {parent : List ℕ} {v u
           above = refl;
           on-way =
               sym (s.roots.same (get_or parent up 0) (omega (arith, climb-bound, s.small))) ∙
-              root-up s.roots.forest up (omega (arith, s.small)) ∙ ap (rootOf parent) s.above ∙
+              root-up s.roots.forest up (omega (arith, s.small)) ∙ ap (root_of parent) s.above ∙
               root-up s.roots.forest v s.small ∙ s.roots.same v s.small ∙ s.on-way;
         }
 

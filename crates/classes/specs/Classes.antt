@@ -1,7 +1,7 @@
 -- Classes of nodes (document 01: "the smallest equivalence that holds both graphs' sharing and passes down equal features"). Each
 -- node has a row, a span of places that hold its links.
 use Rattle.std.specs.Prelude.{◌≡◌, cond, List, ◌⊎◌, ℕ, zero, suc, ◌+◌, ◌-◌, ◌*◌, ◌≤◌, ◌<◌, eqb, length, get_or}
-use Rattle.layout.specs.Layout.{featureAt, targetAt}
+use Rattle.layout.specs.Layout.{feature_at, target_at}
 use Rattle.classes.specs.Merge.{Span}
 
 -- the sum of the first n values of a function
@@ -10,12 +10,12 @@ sum_to zero g = 0
 sum_to (suc n) g = sum_to n g + g n
 
 -- the length of a class's row, 0 for a node that represents no class
-abbrev pub rowLength : (ℕ → ℕ) → List ℕ → List ℕ → ℕ → ℕ
-rowLength class start end x = cond (eqb (class x) x) (get_or end x 0 - get_or start x 0) 0
+abbrev pub row_length : (ℕ → ℕ) → List ℕ → List ℕ → ℕ → ℕ
+row_length class start end x = cond (eqb (class x) x) (get_or end x 0 - get_or start x 0) 0
 
 -- the number of links of all nodes
-abbrev pub linksOf : ℕ → List ℕ → List ℕ → ℕ
-linksOf nodes start end = sum_to nodes (rowLength (λ x. x) start end)
+abbrev pub links_of : ℕ → List ℕ → List ℕ → ℕ
+links_of nodes start end = sum_to nodes (row_length (λ x. x) start end)
 
 -- There is room for all joins. There are fewer joins than nodes, and a join takes at most 64 places and no more than there are links.
 pub record Roomy (nodes links used room : ℕ) : Type 0 where
@@ -34,7 +34,7 @@ pub record Rows (nodes : ℕ) (start end pool : List ℕ) (used : ℕ) : Type 0 
   pub start-long : length start ≡ 510
   pub end-long : length end ≡ 510
   pub span : (x : ℕ) → x < nodes → Span pool used (get_or start x 0) (get_or end x 0)
-  pub within : (x k : ℕ) → x < nodes → At start end x k → targetAt pool k < nodes
+  pub within : (x k : ℕ) → x < nodes → At start end x k → target_at pool k < nodes
 
 -- The smallest equivalence that relates node 0 to the node `second` and passes down equal features.
 pub data Same (nodes second : ℕ) (start end pool : List ℕ) : ℕ → ℕ → Type 0 where
@@ -43,7 +43,7 @@ pub data Same (nodes second : ℕ) (start end pool : List ℕ) : ℕ → ℕ →
   back : {x y : ℕ} → Same nodes second start end pool x y → Same nodes second start end pool y x
   next : {x y z : ℕ} → Same nodes second start end pool x y → Same nodes second start end pool y z → Same nodes second start end pool x z
   down : {x y j k : ℕ} → Same nodes second start end pool x y → x < nodes → y < nodes → At start end x j → At start end y k →
-      featureAt pool j ≡ featureAt pool k → Same nodes second start end pool (targetAt pool j) (targetAt pool k)
+      feature_at pool j ≡ feature_at pool k → Same nodes second start end pool (target_at pool j) (target_at pool k)
 
 -- `class` gives the lowest node of each class. That node has the class's row: the links of the nodes of the class, one for each feature.
 pub record Closed (nodes second : ℕ) (start end pool : List ℕ) (class start' end' pool' : List ℕ) (used : ℕ) : Type 0 where
@@ -55,9 +55,9 @@ pub record Closed (nodes second : ℕ) (start end pool : List ℕ) (class start'
   pub rows : Rows nodes start' end' pool' used
   pub bounded : used ≤ 37692
   pub room : used ≤ length pool'
-  pub short : sum_to nodes (rowLength (λ x. get_or class x 0) start' end') ≤ linksOf nodes start end
+  pub short : sum_to nodes (row_length (λ x. get_or class x 0) start' end') ≤ links_of nodes start end
   pub source : (c k : ℕ) → c < nodes → At start' end' c k →
       (x : ℕ) × (j : ℕ) × (x < nodes) × At start end x j × Same nodes second start end pool c x × (get_or pool j 0 ≡ get_or pool' k 0)
   pub kept : (x j : ℕ) → x < nodes → At start end x j →
-      (k : ℕ) × At start' end' (get_or class x 0) k × (featureAt pool' k ≡ featureAt pool j) ×
-      (get_or class (targetAt pool' k) 0 ≡ get_or class (targetAt pool j) 0)
+      (k : ℕ) × At start' end' (get_or class x 0) k × (feature_at pool' k ≡ feature_at pool j) ×
+      (get_or class (target_at pool' k) 0 ≡ get_or class (target_at pool j) 0)

@@ -1,7 +1,7 @@
 // The forest of classes: each node has a parent of no greater number, and the root above a node represents the node's class.
 
 ghost use Rattle.std.specs.Prelude.{ℕ, ◌≤◌, ◌<◌, length, get_or, ◌≡◌};
-ghost use Rattle.classes.specs.Forest.{Forest, SameRoots, United, rootOf};
+ghost use Rattle.classes.specs.Forest.{Forest, SameRoots, United, root_of};
 
 // Makes each of the first `nodes` nodes a class of its own.
 pub fn separate(nodes: usize, parent: &mut [u16; 510])
@@ -19,7 +19,7 @@ pub fn separate(nodes: usize, parent: &mut [u16; 510])
 // The root above x. On the way up, every second node gets a parent one step nearer to the root.
 pub fn find(parent: &mut [u16; 510], x: usize) -> usize
     requires { (nodes : ℕ) × Forest nodes parent.old × (x < nodes) }
-    ensures value { result ≡ rootOf parent.old x }
+    ensures value { result ≡ root_of parent.old x }
     ensures by_index { (nodes : ℕ) → Forest nodes parent.old → x < nodes → SameRoots nodes parent.old parent.new }
 {
     let mut v = x;
@@ -51,7 +51,7 @@ pub fn unite(parent: &mut [u16; 510], a: usize, b: usize)
 pub fn flatten(nodes: usize, parent: &mut [u16; 510])
     requires { Forest nodes parent.old }
     ensures parent_len { length parent.new ≡ 510 }
-    ensures by_index { (x : ℕ) → x < nodes → get_or parent.new x 0 ≡ rootOf parent.old x }
+    ensures by_index { (x : ℕ) → x < nodes → get_or parent.new x 0 ≡ root_of parent.old x }
 {
     let mut x = 0;
     while x < nodes {

@@ -7,7 +7,7 @@ pub mod rows;
 
 ghost use Rattle.std.specs.Prelude.{◌+◌, ◌≤◌, ◌<◌, length, get_or, set, ◌≡◌};
 ghost use Rattle.classes.specs.Merge.{MergesRows, Places, Span};
-ghost use Rattle.classes.specs.Classes.{Closed, Roomy, Rows, linksOf};
+ghost use Rattle.classes.specs.Classes.{Closed, Roomy, Rows, links_of};
 
 use crate::rows::Reach;
 use layout::SCALE;
@@ -58,8 +58,8 @@ pub fn close(
 ) -> usize
     requires rows { Rows nodes start.old end.old pool.old used }
     requires second_lt_nodes { (second < nodes) × (used ≤ 5116) × (length class.old ≡ 510) }
-    requires end_bound { (linksOf nodes start.old end.old ≤ 4096) × (linksOf nodes start.old end.old < length waiting.old) }
-    requires roomy { Roomy nodes (linksOf nodes start.old end.old) used (length pool.old) }
+    requires end_bound { (links_of nodes start.old end.old ≤ 4096) × (links_of nodes start.old end.old < length waiting.old) }
+    requires roomy { Roomy nodes (links_of nodes start.old end.old) used (length pool.old) }
     ensures { Closed nodes second start.old end.old pool.old class.new start.new end.new pool.new result }
 {
     forest::separate(nodes, class);

@@ -2,7 +2,7 @@
 
 ghost use Rattle.std.specs.Prelude.{◌+◌, ◌%◌, ◌≤◌, length, ◌≡◌};
 ghost use Rattle.layout.specs.Layout.{scale};
-ghost use Rattle.classes.specs.Merge.{Merges, Places, Span, featureOr, pairWord};
+ghost use Rattle.classes.specs.Merge.{Merges, Places, Span, feature_or, pair_word};
 
 use layout::SCALE;
 
@@ -16,7 +16,7 @@ pub struct Reach {
 // The feature at a place of a row, 64 past its end.
 fn feature_at(pool: &[u16], k: usize, end: usize) -> u16
     requires { end ≤ length pool.now }
-    ensures { result ≡ featureOr pool.now k end }
+    ensures { result ≡ feature_or pool.now k end }
 {
     if k < end {
         let w = pool[k];
@@ -27,7 +27,7 @@ fn feature_at(pool: &[u16], k: usize, end: usize) -> u16
 
 // The word of the pair of two links' targets.
 fn pair(v: u16, w: u16) -> u32
-    ensures { result ≡ pairWord (v % scale) (w % scale) }
+    ensures { result ≡ pair_word (v % scale) (w % scale) }
 {
     ((v % SCALE) as u32) * (SCALE as u32) + ((w % SCALE) as u32)
 }

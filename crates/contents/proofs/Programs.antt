@@ -13,12 +13,12 @@ use Rattle.graphs.specs.Number.{Canonical, canonical, written}
 use Rattle.lattice.specs.Label.{Label}
 use Rattle.encoder.specs.Encode.{encoded}
 use Rattle.encode.specs.declared.Written.TheVariants as outcome
-use Rattle.encode.specs.Encode.{yielding, fitted, writtenOut}
+use Rattle.encode.specs.Encode.{yielding, fitted, written_out}
 use Rattle.encoder.proofs.Lengths.{longest}
 use Rattle.record.specs.declared.GraphFault.{GraphFault}
 use Rattle.record.specs.declared.reading.Verdict.{Verdict}
 use Rattle.record.specs.declared.reading.Verdict.TheVariants.{Refused}
-use Rattle.record.specs.Read.{Reading, accepted, reading, graphOfRows}
+use Rattle.record.specs.Read.{Reading, accepted, reading, graph_of_rows}
 use Rattle.record.specs.Reads.{Reads}
 use Rattle.record.proofs.Accepted.{accepted-rules}
 use Rattle.record.proofs.Theorems.{accepted-fits, written-accepted}
@@ -28,9 +28,9 @@ use Rattle.replies.specs.declared.Reply.{Reply}
 use Rattle.replies.specs.declared.Reply.TheVariants.{Length, Graph}
 use Rattle.replies.specs.Reply.{Result, resulting, result_of}
 use Rattle.pairs.proofs.Readings.{told-refused}
-use Rattle.engine.specs.Rewriting.{rewrittenRows}
+use Rattle.engine.specs.Rewriting.{rewritten_rows}
 use Rattle.versions.specs.State.{made, taken}
-use Rattle.contents.specs.Contents.{onProgram}
+use Rattle.contents.specs.Contents.{on_program}
 use Rattle.contents.specs.Promise.{Programmed}
 
 -- its 4 to 7
@@ -40,7 +40,7 @@ program-refused reads fault e out room = record {
   long = room;
   short = λ l q. let z : ◌≡◌ {A = ℕ} 0 1 = cc in absurd (omega arith);
   some_bytes = λ l q. let z : ◌≡◌ {A = ℕ} 0 1 = cc in absurd (omega arith);
-  writes = sym (ap (λ (o : Reading). onProgram o made) (told-refused reads fault e));
+  writes = sym (ap (λ (o : Reading). on_program o made) (told-refused reads fault e));
 }
 
 -- its record, where there is room for the longest
@@ -48,7 +48,7 @@ module _ (n : ℕ) (bytes : List ℕ) (rows : List (Row Label)) (ok : reading n 
   abbrev form : List (Row Label)
   form = (accepted-fits n bytes rows ok).0
 
-  is-form : canonical eqb (graphOfRows rows) ≡ written form
+  is-form : canonical eqb (graph_of_rows rows) ≡ written form
   is-form = (accepted-fits n bytes rows ok).1
 
   form-short : length (encoded form) ≤ 4854
@@ -56,10 +56,10 @@ module _ (n : ℕ) (bytes : List ℕ) (rows : List (Row Label)) (ok : reading n 
       let rules = accepted-rules n (encoded form) form (written-accepted n [] bytes rows ok form is-form).0 in
       longest form rules.short rules.links
 
-  form-written : rewrittenRows out rows ≡ resulting (Length (length (encoded form))) (encoded form ++ drop (length (encoded form)) out)
-  unfolding writtenOut fitted
+  form-written : rewritten_rows out rows ≡ resulting (Length (length (encoded form))) (encoded form ++ drop (length (encoded form)) out)
+  unfolding written_out fitted
   form-written =
-      ap (λ (c : Canonical Label). result_of (writtenOut c out)) is-form
+      ap (λ (c : Canonical Label). result_of (written_out c out)) is-form
       ∙ ap (λ (b : Bool). result_of (cond b (yielding (outcome.Length (length (encoded form))) (encoded form ++ drop (length (encoded form)) out)) (yielding outcome.NoRoom out)))
       (le-leb (length (encoded form)) (length out) (omega (arith, form-short)))
 
@@ -67,13 +67,13 @@ module _ (n : ℕ) (bytes : List ℕ) (rows : List (Row Label)) (ok : reading n 
   unfolding encoded
   form-some = omega arith
 
-  told : {r : Reply} {new : List ℕ} → resulting r new ≡ rewrittenRows out rows → r ≡ Length (length (encoded form))
+  told : {r : Reply} {new : List ℕ} → resulting r new ≡ rewritten_rows out rows → r ≡ Length (length (encoded form))
   told is = ap (λ (x : Result). x.reply) (is ∙ form-written)
 
   same_length : (k l : ℕ) → ◌≡◌ {A = Reply} (Length k) (Length l) → k ≡ l
   same_length k l e = cc
 
-  pub program-written : {r : Reply} {new : List ℕ} → resulting r new ≡ rewrittenRows out rows → Programmed n bytes r new
+  pub program-written : {r : Reply} {new : List ℕ} → resulting r new ≡ rewritten_rows out rows → Programmed n bytes r new
   program-written {r} {new} is = record {
     long =
         ap (λ (x : Result). length x.output) (is ∙ form-written)
@@ -85,7 +85,7 @@ module _ (n : ℕ) (bytes : List ℕ) (rows : List (Row Label)) (ok : reading n 
         ap taken (is ∙ form-written)
         ∙ ap made (take-append_seam (encoded form) (drop (length (encoded form)) out))
         ∙ ap (λ (c : Canonical Label). made (encoded (numbered c))) (sym is-form)
-        ∙ sym (ap (λ (o : Reading). onProgram o made) ok);
+        ∙ sym (ap (λ (o : Reading). on_program o made) ok);
   }
 
 -- the record that is told, in the output

@@ -8,7 +8,7 @@ use Rattle.lattice.specs.Label.{Label}
 use Rattle.encoder.specs.Encode.{encoded}
 use Rattle.encode.specs.Encode.{fitted}
 use Rattle.record.specs.declared.GraphFault.TheVariants.{Malformed}
-use Rattle.record.specs.Read.{Reading, refused, accepted, reading, graphOfRows}
+use Rattle.record.specs.Read.{Reading, refused, accepted, reading, graph_of_rows}
 use Rattle.difference.specs.Difference.{numbered}
 use Rattle.replies.specs.declared.Side.TheVariants.{First, Second}
 use Rattle.replies.specs.declared.Reply.TheVariants.{Graph, WrongVersion}
@@ -16,31 +16,31 @@ use Rattle.replies.specs.Reply.{Result, refusing, result_of}
 use Rattle.versions.specs.State.{Made, made, stopped, Programs, way}
 
 -- "one holding no state so reached within its length is 4 of the first graph"
-abbrev pub onHeld : Option Programs → (Programs → Made) → Made
-onHeld none next = stopped (Graph Malformed First)
-onHeld (some ps) next = next ps
+abbrev pub on_held : Option Programs → (Programs → Made) → Made
+on_held none next = stopped (Graph Malformed First)
+on_held (some ps) next = next ps
 
 -- the written record of a graph
-abbrev pub writtenRecord : List (Row Label) → List ℕ
-writtenRecord rows = encoded (numbered (canonical eqb (graphOfRows rows)))
+abbrev pub written_record : List (Row Label) → List ℕ
+written_record rows = encoded (numbered (canonical eqb (graph_of_rows rows)))
 
 -- "the program's 4 to 7, as the second", else its written record
-abbrev pub onProgram : Reading → (List ℕ → Made) → Made
-onProgram (refused fault) next = stopped (Graph fault Second)
-onProgram (accepted rows) next = next (writtenRecord rows)
+abbrev pub on_program : Reading → (List ℕ → Made) → Made
+on_program (refused fault) next = stopped (Graph fault Second)
+on_program (accepted rows) next = next (written_record rows)
 
 -- "a version above 15, or .. present for put, is 20"
 abbrev pub is_none : {A : Type 0} → Option A → Bool
 is_none none = true
 is_none (some x) = false
 
-abbrev pub onAbsent : Programs → ℕ → Made → Made
-onAbsent ps version next = cond (ltb version 16 && is_none (get_or ps version none)) next (stopped WrongVersion)
+abbrev pub on_absent : Programs → ℕ → Made → Made
+on_absent ps version next = cond (ltb version 16 && is_none (get_or ps version none)) next (stopped WrongVersion)
 
 -- "a version above 15, or absent for read and drop"
-abbrev pub onPresent : Option (List ℕ) → (List ℕ → Made) → Made
-onPresent none next = stopped WrongVersion
-onPresent (some p) next = next p
+abbrev pub on_present : Option (List ℕ) → (List ℕ → Made) → Made
+on_present none next = stopped WrongVersion
+on_present (some p) next = next p
 
 -- "read gives back the written record that was put", or 8
 abbrev pub given : List ℕ → Made → Result
@@ -49,10 +49,10 @@ given out (stopped r) = refusing r out
 
 module _ (n : ℕ) (t : List ℕ) where
   -- the state after the version is put among the programs, in a room of so many bytes
-  abbrev pub putAmong : ℕ → ℕ → List ℕ → Programs → Made
-  putAmong room version bytes ps =
-      onProgram (reading n bytes) λ p. onAbsent ps version (way n t room (set ps version (some p)))
+  abbrev pub put_among : ℕ → ℕ → List ℕ → Programs → Made
+  put_among room version bytes ps =
+      on_program (reading n bytes) λ p. on_absent ps version (way n t room (set ps version (some p)))
 
   -- and after it is dropped
-  abbrev pub dropAmong : ℕ → ℕ → Programs → Made
-  dropAmong room version ps = onPresent (get_or ps version none) λ p. way n t room (set ps version none)
+  abbrev pub drop_among : ℕ → ℕ → Programs → Made
+  drop_among room version ps = on_present (get_or ps version none) λ p. way n t room (set ps version none)

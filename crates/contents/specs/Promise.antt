@@ -5,7 +5,7 @@ use Rattle.replies.specs.declared.Reply.{Reply}
 use Rattle.replies.specs.declared.Reply.TheVariants.{Length}
 use Rattle.replies.specs.Reply.{resulting, Bounded}
 use Rattle.versions.specs.State.{Made, made, taken}
-use Rattle.contents.specs.Contents.{onProgram}
+use Rattle.contents.specs.Contents.{on_program}
 
 -- The bytes that a call makes beside the store, or the reply that refuses it.
 pub record Among (m : Made) (old : List ℕ) (r : Reply) (new : List ℕ) : Type 0 where
@@ -18,4 +18,4 @@ pub record Programmed (n : ℕ) (bytes : List ℕ) (r : Reply) (record₂ : List
   pub long : length record₂ ≡ 4854
   pub short : Bounded r 4854
   pub some_bytes : (l : ℕ) → r ≡ Length l → 1 ≤ l
-  pub writes : taken (resulting r record₂) ≡ onProgram (reading n bytes) made
+  pub writes : taken (resulting r record₂) ≡ on_program (reading n bytes) made

@@ -6,7 +6,7 @@ ghost use Rattle.std.proofs.Math.Option.{none};
 ghost use Rattle.bounds.specs.Opening.{OpenedFor};
 ghost use Rattle.replies.specs.Reply.{resulting};
 ghost use Rattle.versions.specs.State.{held, made};
-ghost use Rattle.contents.specs.Contents.{dropAmong, given, onHeld, onPresent, putAmong};
+ghost use Rattle.contents.specs.Contents.{drop_among, given, on_held, on_present, put_among};
 ghost use Rattle.contents.specs.Promise.{Among, Programmed};
 
 use record::GraphFault;
@@ -28,8 +28,8 @@ pub fn put_among<'a>(
     state: &mut [u8],
 ) -> Reply
     requires { OpenedFor true n table.now sets.now cells.now × (length state.old ≡ length store.now) × (length store.now ≤ 16384) }
-    ensures { Among (onHeld (held n table.now store.now)
-        (putAmong n table.now (length store.now) version bytes.now)) state.old result state.new }
+    ensures { Among (on_held (held n table.now store.now)
+        (put_among n table.now (length store.now) version bytes.now)) state.old result state.new }
 {
     let mut slots = [0u8; versions::slots::SLOTS];
     let mut part = [0u8; versions::slots::SLOT];
@@ -70,8 +70,8 @@ pub fn drop_among<'a>(
     state: &mut [u8],
 ) -> Reply
     requires { OpenedFor true n table.now sets.now cells.now × (length state.old ≡ length store.now) × (length store.now ≤ 16384) }
-    ensures { Among (onHeld (held n table.now store.now)
-        (dropAmong n table.now (length store.now) version)) state.old result state.new }
+    ensures { Among (on_held (held n table.now store.now)
+        (drop_among n table.now (length store.now) version)) state.old result state.new }
 {
     let mut slots = [0u8; versions::slots::SLOTS];
     let mut part = [0u8; versions::slots::SLOT];
@@ -99,7 +99,7 @@ pub fn read_among<'a>(
     out: &mut [u8],
 ) -> Reply
     requires { OpenedFor true n table.now sets.now cells.now × (length store.now ≤ 16384) }
-    ensures { resulting result out.new ≡ given out.old (onHeld (held n table.now store.now) (λ ps. onPresent (get_or ps version none) made)) }
+    ensures { resulting result out.new ≡ given out.old (on_held (held n table.now store.now) (λ ps. on_present (get_or ps version none) made)) }
 {
     let mut slots = [0u8; versions::slots::SLOTS];
     let mut part = [0u8; versions::slots::SLOT];

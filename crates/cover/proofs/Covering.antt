@@ -9,10 +9,10 @@ use native.Mathlib.Nat.{lt_trans}
 use native.Mathlib.Omega.{arith}
 use lib.ListN.{length, get_or, set, take, replicate, length-set, length-replicate, get_or-replicate}
 use lib.Seq.{get_or-set_same, get_or-set_other, get_or-take, length-take-le}
-use Rattle.layout.specs.Layout.{size, rowFrom, linksFrom, rowEnd, featureAt, targetAt, Node, Place, rowsEnd}
+use Rattle.layout.specs.Layout.{size, row_from, links_from, row_end, feature_at, target_at, Node, Place, rows_end}
 use Rattle.layout.proofs.Order.{next_row, place-from, place-before, one-row, no_header, place-rises, one-feature}
 use Rattle.subsume.specs.Following.{Sought}
-use Rattle.classes.specs.Forest.{Forest, SameRoots, United, rootOf}
+use Rattle.classes.specs.Forest.{Forest, SameRoots, United, root_of}
 use Rattle.classes.proofs.Roots.{separate-forest, fixed-root}
 use Rattle.cover.specs.Cover.{Lying, Over, Covers, Tied, same, shared, back, next, Grouping, Unowned, Owns}
 
@@ -22,11 +22,11 @@ pub record Covering (s g map : List ℕ) (y k j : ℕ) (owner parent : List ℕ)
   pub lying : Lying s g map
   pub inside : y < size g
   pub grouping : Grouping s g map k owner parent
-  pub low : linksFrom g y ≤ k
-  pub high : k ≤ rowEnd g y
-  pub s-low : linksFrom s (get_or map y 0) ≤ j
-  pub s-high : j ≤ rowEnd s (get_or map y 0)
-  pub before : k < rowEnd g y → (i : ℕ) → linksFrom s (get_or map y 0) ≤ i → i < j → featureAt s i < featureAt g k
+  pub low : links_from g y ≤ k
+  pub high : k ≤ row_end g y
+  pub s-low : links_from s (get_or map y 0) ≤ j
+  pub s-high : j ≤ row_end s (get_or map y 0)
+  pub before : k < row_end g y → (i : ℕ) → links_from s (get_or map y 0) ≤ i → i < j → feature_at s i < feature_at g k
 
 -- The row of node y of g and the row of its node of s lie inside the words, and the two nodes have numbers below 255.
 pub record RowsKnown (s g map : List ℕ) (y : ℕ) : Type 0 where
@@ -51,7 +51,7 @@ module _ {s g map : List ℕ} (lying : Lying s g map) where
       one-feature lying.lower.sound.shaped a.under
       (subst (λ (y : ℕ). Place s (get_or map y 0) j) (sym e) b.under) (a.feature ∙ sym b.feature)
 
-  over-in : {k j : ℕ} → Over s g map k j → k < rowsEnd g
+  over-in : {k j : ℕ} → Over s g map k j → k < rows_end g
   over-in o = place-before lying.upper.sound.shaped o.place
 
   over-within : {k j : ℕ} → Over s g map k j → j < length s
@@ -84,7 +84,7 @@ module _ {s g map : List ℕ} (lying : Lying s g map) where
 
   -- At the start, no place has an owner and each node is a class of its own.
   pub grouping-start : {owner parent : List ℕ} → Unowned s owner → length parent ≡ 510 → ((x : ℕ) → x < size g → get_or parent x 0 ≡ x) →
-      Grouping s g map (rowFrom g 0) owner parent
+      Grouping s g map (row_from g 0) owner parent
   grouping-start {owner} {parent} free parent-long apart =
       record {
         owner-long = free.long;
@@ -99,19 +99,19 @@ module _ {s g map : List ℕ} (lying : Lying s g map) where
       forest : Forest (size g) parent
       forest = separate-forest (omega (arith, lying.upper.small)) parent-long apart
 
-      alone : (x : ℕ) → x < size g → rootOf parent x ≡ x
+      alone : (x : ℕ) → x < size g → root_of parent x ≡ x
       alone x h = fixed-root forest x (apart x h)
 
   -- One place more.
 
   module _ {k j : ℕ} {owner parent : List ℕ} (group : Grouping s g map k owner parent) (o : Over s g map k j) where
-    enters : Covers s g map (rowsEnd g) j (targetAt g k)
+    enters : Covers s g map (rows_end g) j (target_at g k)
     enters = (k, over-in o, o, refl)
 
-    grouping-new : get_or owner j 0 ≡ 65535 → Grouping s g map (k + 1) (set owner j (targetAt g k)) parent
+    grouping-new : get_or owner j 0 ≡ 65535 → Grouping s g map (k + 1) (set owner j (target_at g k)) parent
     grouping-new free =
         record {
-          owner-long = length-set owner j (targetAt g k) ∙ group.owner-long;
+          owner-long = length-set owner j (target_at g k) ∙ group.owner-long;
           forest = group.forest;
           owned = λ i h d. owned i h d (ℕ_discrete i j);
           covered = λ i z c. covered i z c (ℕ_discrete c.0 k);
@@ -119,7 +119,7 @@ module _ {s g map : List ℕ} (lying : Lying s g map) where
         }
       where
         z₀ : ℕ
-        z₀ = targetAt g k
+        z₀ = target_at g k
 
         new : List ℕ
         new = set owner j z₀
@@ -127,26 +127,26 @@ module _ {s g map : List ℕ} (lying : Lying s g map) where
         here : get_or new j 0 ≡ z₀
         here = get_or-set_same owner j z₀ 0 (omega (arith, group.owner-long, over-within o))
 
-        owned : (i : ℕ) → i < length new → (get_or new i 0 ≡ 65535 → ⊥) → Dec (i ≡ j) → Covers s g map (rowsEnd g) i (get_or new i 0)
+        owned : (i : ℕ) → i < length new → (get_or new i 0 ≡ 65535 → ⊥) → Dec (i ≡ j) → Covers s g map (rows_end g) i (get_or new i 0)
         owned i h d (yes e) = rw (e, here) enters
         owned i h d (no n) =
             let same : get_or new i 0 ≡ get_or owner i 0 = get_or-set_other owner j i z₀ 0 n in
             rw same (group.owned i (omega (arith, length-set owner j z₀)) λ q. d (same ∙ q))
 
         covered : (i z : ℕ) (c : Covers s g map (k + 1) i z) → Dec (c.0 ≡ k) →
-            (get_or new i 0 ≡ 65535 → ⊥) × (rootOf parent (get_or new i 0) ≡ rootOf parent z)
+            (get_or new i 0 ≡ 65535 → ⊥) × (root_of parent (get_or new i 0) ≡ root_of parent z)
         covered i z (p, h, q, e) (yes r) =
             let at : Over s g map k i = rw (sym r) q in
             let same : i ≡ j = over-one at o in
-            let value : get_or new i 0 ≡ z = ap (λ (x : ℕ). get_or new x 0) same ∙ here ∙ ap (λ (x : ℕ). targetAt g x) (sym r) ∙ e in
-            (λ x. omega (arith, sym value ∙ x, entered-low (p, h, q, e), lying.upper.small), ap (rootOf parent) value)
+            let value : get_or new i 0 ≡ z = ap (λ (x : ℕ). get_or new x 0) same ∙ here ∙ ap (λ (x : ℕ). target_at g x) (sym r) ∙ e in
+            (λ x. omega (arith, sym value ∙ x, entered-low (p, h, q, e), lying.upper.small), ap (root_of parent) value)
         covered i z (p, h, q, e) (no r) =
             let old = group.covered i z (p, omega arith, q, e) in
             let same : get_or new i 0 ≡ get_or owner i 0 =
             get_or-set_other owner j i z₀ 0 (λ s. old.0 (ap (λ (x : ℕ). get_or owner x 0) s ∙ free)) in
-            (λ x. old.0 (sym same ∙ x), ap (rootOf parent) same ∙ old.1)
+            (λ x. old.0 (sym same ∙ x), ap (root_of parent) same ∙ old.1)
 
-    grouping-united : {parent' : List ℕ} → (get_or owner j 0 ≡ 65535 → ⊥) → United (size g) parent (get_or owner j 0) (targetAt g k) parent' →
+    grouping-united : {parent' : List ℕ} → (get_or owner j 0 ≡ 65535 → ⊥) → United (size g) parent (get_or owner j 0) (target_at g k) parent' →
         Grouping s g map (k + 1) owner parent'
     grouping-united {parent'} held u =
         record {
@@ -157,17 +157,17 @@ module _ {s g map : List ℕ} (lying : Lying s g map) where
           tied = λ x y h l e. tied x y h l (u.only x y h l e);
         }
       where
-        first : Covers s g map (rowsEnd g) j (get_or owner j 0)
+        first : Covers s g map (rows_end g) j (get_or owner j 0)
         first = group.owned j (omega (arith, over-within o, group.owner-long)) held
 
         covered : (i z : ℕ) (c : Covers s g map (k + 1) i z) → Dec (c.0 ≡ k) →
-            (get_or owner i 0 ≡ 65535 → ⊥) × (rootOf parent' (get_or owner i 0) ≡ rootOf parent' z)
+            (get_or owner i 0 ≡ 65535 → ⊥) × (root_of parent' (get_or owner i 0) ≡ root_of parent' z)
         covered i z (p, h, q, e) (yes r) =
             let at : Over s g map k i = rw (sym r) q in
             let same : i ≡ j = over-one at o in (
               λ x. held (ap (λ (y : ℕ). get_or owner y 0) (sym same) ∙ x),
-              ap (λ (y : ℕ). rootOf parent' (get_or owner y 0)) same ∙ u.merged ∙
-                  ap (rootOf parent') (ap (λ (y : ℕ). targetAt g y) (sym r) ∙ e),
+              ap (λ (y : ℕ). root_of parent' (get_or owner y 0)) same ∙ u.merged ∙
+                  ap (root_of parent') (ap (λ (y : ℕ). target_at g y) (sym r) ∙ e),
             )
         covered i z (p, h, q, e) (no r) =
             let old = group.covered i z (p, omega arith, q, e) in (
@@ -176,22 +176,22 @@ module _ {s g map : List ℕ} (lying : Lying s g map) where
                   (entered-low (p, h, q, e)) old.1,
             )
 
-        link : Tied s g map (get_or owner j 0) (targetAt g k)
+        link : Tied s g map (get_or owner j 0) (target_at g k)
         link = shared j first enters
 
         tied : (x y : ℕ) → x < size g → y < size g →
-            (rootOf parent x ≡ rootOf parent y) ⊎ ((rootOf parent x ≡ rootOf parent (get_or owner j 0)) × (rootOf parent y ≡ rootOf parent (targetAt g k))) ⊎
-            ((rootOf parent x ≡ rootOf parent (targetAt g k)) × (rootOf parent y ≡ rootOf parent (get_or owner j 0))) →
+            (root_of parent x ≡ root_of parent y) ⊎ ((root_of parent x ≡ root_of parent (get_or owner j 0)) × (root_of parent y ≡ root_of parent (target_at g k))) ⊎
+            ((root_of parent x ≡ root_of parent (target_at g k)) × (root_of parent y ≡ root_of parent (get_or owner j 0))) →
             Tied s g map x y
         tied x y h l (inl e) = group.tied x y h l e
         tied x y h l (inr (inl (a, b))) =
             next (group.tied x (get_or owner j 0) h (entered-low first) a)
-            (next link (back (group.tied y (targetAt g k) l (entered-low enters) b)))
+            (next link (back (group.tied y (target_at g k) l (entered-low enters) b)))
         tied x y h l (inr (inr (a, b))) =
-            next (group.tied x (targetAt g k) h (entered-low enters) a)
+            next (group.tied x (target_at g k) h (entered-low enters) a)
             (next (back link) (back (group.tied y (get_or owner j 0) l (entered-low first) b)))
 
-    grouping-next : {owner' parent' : List ℕ} → Owns owner parent j (targetAt g k) owner' parent' →
+    grouping-next : {owner' parent' : List ℕ} → Owns owner parent j (target_at g k) owner' parent' →
         Grouping s g map (k + 1) owner' parent'
     grouping-next {owner'} {parent'} w = go (ℕ_discrete (get_or owner j 0) 65535)
       where
@@ -203,8 +203,8 @@ module _ {s g map : List ℕ} (lying : Lying s g map) where
 
   -- The loop over a row of g.
 
-  pub covering-start : {y : ℕ} {owner parent : List ℕ} → y < size g → Grouping s g map (rowFrom g y) owner parent →
-      Covering s g map y (linksFrom g y) (linksFrom s (get_or map y 0)) owner parent
+  pub covering-start : {y : ℕ} {owner parent : List ℕ} → y < size g → Grouping s g map (row_from g y) owner parent →
+      Covering s g map y (links_from g y) (links_from s (get_or map y 0)) owner parent
   covering-start {y} h group =
       record {
         lying = lying;
@@ -218,11 +218,11 @@ module _ {s g map : List ℕ} (lying : Lying s g map) where
       }
 
 module _ {s g map : List ℕ} {y k j place : ℕ} {owner parent : List ℕ} (c : Covering s g map y k j owner parent)
-    (more : k < rowEnd g y) (sought : Sought s j (rowEnd s (get_or map y 0)) (featureAt g k) place) where
-  passed : (i : ℕ) → linksFrom s (get_or map y 0) ≤ i → i < place → featureAt s i < featureAt g k
+    (more : k < row_end g y) (sought : Sought s j (row_end s (get_or map y 0)) (feature_at g k) place) where
+  passed : (i : ℕ) → links_from s (get_or map y 0) ≤ i → i < place → feature_at s i < feature_at g k
   passed i low high = go (dec_lt i j)
     where
-      go : Dec (i < j) → featureAt s i < featureAt g k
+      go : Dec (i < j) → feature_at s i < feature_at g k
       go (yes h) = c.before more i low h
       go (no h) = sought.before i (omega arith) high
 
@@ -238,7 +238,7 @@ module _ {s g map : List ℕ} {y k j place : ℕ} {owner parent : List ℕ} (c :
         node = y;
         place = here;
         under = subst (λ (i : ℕ). Place s (get_or map y 0) i) (sym same) at;
-        feature = ap (featureAt s) same ∙ e;
+        feature = ap (feature_at s) same ∙ e;
       }
     where
       apart : {a b : ℕ} → a < b → a ≡ b → ⊥
@@ -247,7 +247,7 @@ module _ {s g map : List ℕ} {y k j place : ℕ} {owner parent : List ℕ} (c :
       above : {a b d : ℕ} → a < b → d ≤ a → b ≡ d → ⊥
       above h l z = omega arith
 
-      go : (p : ℕ) → Place s (get_or map y 0) p → featureAt s p ≡ featureAt g k → Dec (p < place) → Dec (place < p) → place ≡ p
+      go : (p : ℕ) → Place s (get_or map y 0) p → feature_at s p ≡ feature_at g k → Dec (p < place) → Dec (place < p) → place ≡ p
       go p at e (yes h) x = absurd (apart (passed p at.low h) e)
       go p at e (no h) (yes l) =
           let first : Place s (get_or map y 0) place =
@@ -258,13 +258,13 @@ module _ {s g map : List ℕ} {y k j place : ℕ} {owner parent : List ℕ} (c :
   pub place-within : place < length owner
   place-within = omega (arith, over-within c.lying sought-over, c.grouping.owner-long)
 
-  pub target-low : targetAt g k < size g
+  pub target-low : target_at g k < size g
   target-low = entered-low c.lying (k, over-in c.lying sought-over, sought-over, refl)
 
   pub place-owner : (get_or owner place 0 ≡ 65535 → ⊥) → get_or owner place 0 < size g
   place-owner = owner-low c.lying c.grouping place place-within
 
-  pub covering-next : {owner' parent' : List ℕ} → Owns owner parent place (targetAt g k) owner' parent' →
+  pub covering-next : {owner' parent' : List ℕ} → Owns owner parent place (target_at g k) owner' parent' →
       Covering s g map y (k + 1) place owner' parent'
   covering-next w =
       record {
@@ -278,8 +278,8 @@ module _ {s g map : List ℕ} {y k j place : ℕ} {owner parent : List ℕ} (c :
         before = λ h i a b. lt_trans (passed i a b) (c.lying.upper.sound.shaped.ascending y k c.inside c.low h);
       }
 
-pub covering-done : {s g map : List ℕ} {y k j : ℕ} {owner parent : List ℕ} → Covering s g map y k j owner parent → rowEnd g y ≤ k →
-    Grouping s g map (rowEnd g y) owner parent
+pub covering-done : {s g map : List ℕ} {y k j : ℕ} {owner parent : List ℕ} → Covering s g map y k j owner parent → row_end g y ≤ k →
+    Grouping s g map (row_end g y) owner parent
 covering-done {s} {g} {map} {y} {k} {j} {owner} {parent} c h =
     subst (λ (i : ℕ). Grouping s g map i owner parent) (omega (arith, c.high)) c.grouping
 
@@ -303,16 +303,16 @@ grouping-same {s} {g} {map} {bound} {owner} {parent} {later} lying group roots =
     }
 
 -- The end of a row is the beginning of the next.
-pub grouping-row : {s g map : List ℕ} (y : ℕ) {owner parent : List ℕ} → Grouping s g map (rowEnd g y) owner parent →
-    Grouping s g map (rowFrom g (y + 1)) owner parent
+pub grouping-row : {s g map : List ℕ} (y : ℕ) {owner parent : List ℕ} → Grouping s g map (row_end g y) owner parent →
+    Grouping s g map (row_from g (y + 1)) owner parent
 grouping-row {s} {g} {map} y {owner} {parent} c =
     subst (λ (i : ℕ). Grouping s g map i owner parent) (next_row g y (y + 1) (omega arith)) c
 
 -- After the last row, `Grouping` holds for all places.
-pub grouping-end : {s g map : List ℕ} (y : ℕ) {owner parent : List ℕ} → Grouping s g map (rowFrom g y) owner parent → y ≤ size g →
-    size g ≤ y → Grouping s g map (rowsEnd g) owner parent
+pub grouping-end : {s g map : List ℕ} (y : ℕ) {owner parent : List ℕ} → Grouping s g map (row_from g y) owner parent → y ≤ size g →
+    size g ≤ y → Grouping s g map (rows_end g) owner parent
 grouping-end {s} {g} {map} y {owner} {parent} c low high =
-    subst (λ (i : ℕ). Grouping s g map (rowFrom g i) owner parent) (omega arith) c
+    subst (λ (i : ℕ). Grouping s g map (row_from g i) owner parent) (omega arith) c
 
 -- In fresh words no place of s has an owner.
 pub unowned-fresh : (m : ℕ) (s : List ℕ) → length s ≤ m → Unowned s (take (length s) (replicate m 65535))

@@ -2,8 +2,8 @@
 -- link of s, and the classes of the nodes of g. The code of `cover` promises these facts. A link is given by its place in the words of its
 -- graph.
 use Rattle.std.specs.Prelude.{◌≡◌, List, ℕ, ◌≤◌, ◌<◌, length, get_or, set}
-use Rattle.layout.specs.Layout.{longest, size, featureAt, targetAt, Recorded, Place, rowsEnd}
-use Rattle.classes.specs.Forest.{Forest, United, rootOf}
+use Rattle.layout.specs.Layout.{longest, size, feature_at, target_at, Recorded, Place, rows_end}
+use Rattle.classes.specs.Forest.{Forest, United, root_of}
 
 module _ (s g map : List ℕ) where
   -- s and g are graphs of records, and `map` takes each node of g to a node of s. Whenever a node of g has a link, the node of s that `map`
@@ -13,24 +13,24 @@ module _ (s g map : List ℕ) where
     pub upper : Recorded g
     pub short : length s ≤ longest
     pub mapped : (y : ℕ) → y < size g → get_or map y 0 < size s
-    pub found : (y i : ℕ) → Place g y i → (j : ℕ) × Place s (get_or map y 0) j × (featureAt s j ≡ featureAt g i)
+    pub found : (y i : ℕ) → Place g y i → (j : ℕ) × Place s (get_or map y 0) j × (feature_at s j ≡ feature_at g i)
 
   -- place i of g lies over place j of s
   pub record Over (i j : ℕ) : Type 0 where
     pub node : ℕ
     pub place : Place g node i
     pub under : Place s (get_or map node 0) j
-    pub feature : featureAt s j ≡ featureAt g i
+    pub feature : feature_at s j ≡ feature_at g i
 
   -- A link of g at a place before `bound` lies over place j and enters z.
   abbrev pub Covers : ℕ → ℕ → ℕ → Type 0
-  Covers bound j z = (i : ℕ) × (i < bound) × Over i j × (targetAt g i ≡ z)
+  Covers bound j z = (i : ℕ) × (i < bound) × Over i j × (target_at g i ≡ z)
 
   -- Nodes x and y of g are tied when a link that enters x and a link that enters y lie over one link of s. The relation is closed to an
   -- equivalence.
   pub data Tied : ℕ → ℕ → Type 0 where
     same : {x : ℕ} → Tied x x
-    shared : {x y : ℕ} (j : ℕ) → Covers (rowsEnd g) j x → Covers (rowsEnd g) j y → Tied x y
+    shared : {x y : ℕ} (j : ℕ) → Covers (rows_end g) j x → Covers (rows_end g) j y → Tied x y
     back : {x y : ℕ} → Tied x y → Tied y x
     next : {x y z : ℕ} → Tied x y → Tied y z → Tied x z
 
@@ -40,9 +40,9 @@ module _ (s g map : List ℕ) where
   pub record Grouping (bound : ℕ) (owner parent : List ℕ) : Type 0 where
     pub owner-long : length owner ≡ length s
     pub forest : Forest (size g) parent
-    pub owned : (j : ℕ) → j < length owner → (get_or owner j 0 ≡ 65535 → ⊥) → Covers (rowsEnd g) j (get_or owner j 0)
-    pub covered : (j z : ℕ) → Covers bound j z → (get_or owner j 0 ≡ 65535 → ⊥) × (rootOf parent (get_or owner j 0) ≡ rootOf parent z)
-    pub tied : (x y : ℕ) → x < size g → y < size g → rootOf parent x ≡ rootOf parent y → Tied x y
+    pub owned : (j : ℕ) → j < length owner → (get_or owner j 0 ≡ 65535 → ⊥) → Covers (rows_end g) j (get_or owner j 0)
+    pub covered : (j z : ℕ) → Covers bound j z → (get_or owner j 0 ≡ 65535 → ⊥) × (root_of parent (get_or owner j 0) ≡ root_of parent z)
+    pub tied : (x y : ℕ) → x < size g → y < size g → root_of parent x ≡ root_of parent y → Tied x y
 
 -- `owner` has a word for each place of s, and no place has an owner yet.
 pub record Unowned (s owner : List ℕ) : Type 0 where

@@ -4,7 +4,7 @@
 // of `classes`.
 
 ghost use Rattle.std.specs.Prelude.{◌≡◌, ℕ, ◌<◌, length, get_or};
-ghost use Rattle.layout.specs.Layout.{size, rowFrom, rowEnd};
+ghost use Rattle.layout.specs.Layout.{size, row_from, row_end};
 ghost use Rattle.classes.specs.Forest.{Forest};
 ghost use Rattle.cover.specs.Cover.{Grouping, Lying, Owns};
 
@@ -36,8 +36,8 @@ pub fn cover_row<'a>(
     parent: &mut [u16; 510],
 )
     requires lying { Lying s.now g.now map.now × (y < size g.now) }
-    requires grouping { Grouping s.now g.now map.now (rowFrom g.now y) owner.old parent.old }
-    ensures { Grouping s.now g.now map.now (rowEnd g.now y) owner.new parent.new }
+    requires grouping { Grouping s.now g.now map.now (row_from g.now y) owner.old parent.old }
+    ensures { Grouping s.now g.now map.now (row_end g.now y) owner.new parent.new }
 {
     let u = map[y] as usize;
     let mut k = g[y + 1] as usize + layout::HEADER;

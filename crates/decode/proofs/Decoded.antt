@@ -14,10 +14,10 @@ use borrow.Author.Tests.{eqb-true, eqb-false, leb-true}
 use lib.Dec.{eqb, leb}
 use lib.ListN.{length, get_or, drop, length-drop}
 use Rattle.graphs.specs.Rows.{Row, from, features}
-use Rattle.graphs.specs.Large.{linksIn, Ascending}
+use Rattle.graphs.specs.Large.{links_in, Ascending}
 use Rattle.graphs.proofs.Walk.{some-injective, none-some}
 use Rattle.graphs.proofs.Search.{cond-some}
-use Rattle.decode.specs.Decode.{AreBytes, Taken, changed, takeTarget, takeLinks, labelLength, label_of, take_row, takeRows, bit_of, whole, decoded}
+use Rattle.decode.specs.Decode.{AreBytes, Taken, changed, take_target, take_links, label_length, label_of, take_row, take_rows, bit_of, whole, decoded}
 use Rattle.lattice.specs.Label.{Label, plain}
 use Rattle.lattice.specs.Labels.{Known}
 use Rattle.layout.proofs.Builder.{Orderly}
@@ -92,25 +92,25 @@ taken-target k n room b rest t taken =
     }
 
 links-taken : (stands : ℕ → Bool) (k n room : ℕ) (rest : List ℕ) (t : Taken (List (ℕ × ℕ))) →
-    takeLinks stands (from k n) room rest ≡ some t → LinksTaken k n room rest t
-unfolding from takeLinks
+    take_links stands (from k n) room rest ≡ some t → LinksTaken k n room rest t
+unfolding from take_links
 links-taken stands k zero room rest t e = subst (LinksTaken k 0 room rest) (some-injective e) (none-taken k room rest)
 links-taken stands k (suc n) room rest t e = go (stands k) e (links-taken stands (suc k) n)
   where
     Later : Type 0
-    Later = (room : ℕ) (rest : List ℕ) (t : Taken (List (ℕ × ℕ))) → takeLinks stands (from (suc k) n) room rest ≡ some t →
+    Later = (room : ℕ) (rest : List ℕ) (t : Taken (List (ℕ × ℕ))) → take_links stands (from (suc k) n) room rest ≡ some t →
         LinksTaken (suc k) n room rest t
 
-    target : (room : ℕ) (rest : List ℕ) → takeTarget k (takeLinks stands (from (suc k) n)) room rest ≡ some t → Later →
+    target : (room : ℕ) (rest : List ℕ) → take_target k (take_links stands (from (suc k) n)) room rest ≡ some t → Later →
         LinksTaken k (suc n) room rest t
     target zero rest q later = none-some q
     target (suc room) [] q later = none-some q
     target (suc room) (b ∷ rest) q later =
-        let (s, h, same) = (map-eq-some_iff (changed λ ls. (k, b) ∷ ls) (takeLinks stands (from (suc k) n) room rest)).0 q in
+        let (s, h, same) = (map-eq-some_iff (changed λ ls. (k, b) ∷ ls) (take_links stands (from (suc k) n) room rest)).0 q in
         subst (LinksTaken k (suc n) (suc room) (b ∷ rest)) same (taken-target k n room b rest s (later room rest s h))
 
     go : (b : Bool) →
-        cond b (takeTarget k (takeLinks stands (from (suc k) n)) room rest) (takeLinks stands (from (suc k) n) room rest) ≡ some t →
+        cond b (take_target k (take_links stands (from (suc k) n)) room rest) (take_links stands (from (suc k) n) room rest) ≡ some t →
         Later → LinksTaken k (suc n) room rest t
     go true q later = target room rest q later
     go false q later = taken-later k n room rest t (later room rest t q)
@@ -140,8 +140,8 @@ record RowTaken (room : ℕ) (rest : List ℕ) (t : Taken (Row Label)) : Type 0 
 row-taken : (room : ℕ) (rest : List ℕ) (t : Taken (Row Label)) → take_row room rest ≡ some t → RowTaken room rest t
 unfolding take_row
 row-taken room rest t e =
-    let n = labelLength rest in
-    let links = takeLinks (bit_of (drop n rest)) features room (drop (n + 8) rest) in
+    let n = label_length rest in
+    let links = take_links (bit_of (drop n rest)) features room (drop (n + 8) rest) in
     let (enough, q) = cond-some (leb (n + 8) (length rest)) (map (changed λ ls. (label_of rest, ls)) links) t e in
     let (s, h, same) = (map-eq-some_iff (changed {Y = Row Label} λ ls. (label_of rest, ls)) links).0 q in
     let taken = links-taken (bit_of (drop n rest)) 0 64 room (drop (n + 8) rest) s h in
@@ -162,14 +162,14 @@ row-taken room rest t e =
 
 record RowsTaken (k room : ℕ) (rest : List ℕ) (t : Taken (List (Row Label))) : Type 0 where
   many : length t.value ≡ k
-  counted : linksIn t.value + t.room ≡ room
-  long : 9 * length t.value + linksIn t.value + length t.rest ≤ length rest
-  unranged : length rest ≤ 9 * length t.value + linksIn t.value + length t.rest →
+  counted : links_in t.value + t.room ≡ room
+  long : 9 * length t.value + links_in t.value + length t.rest ≤ length rest
+  unranged : length rest ≤ 9 * length t.value + links_in t.value + length t.rest →
       (r : Row Label) → Memᴰ r t.value → Unranged r
   each : (r : Row Label) → Memᴰ r t.value → Proper r × (AreBytes rest → Small r)
 
 no_rows : (room : ℕ) (rest : List ℕ) → RowsTaken 0 room rest (record { value = []; room = room; rest = rest })
-unfolding linksIn
+unfolding links_in
 no_rows room rest =
     record {
       many = refl;
@@ -181,7 +181,7 @@ no_rows room rest =
 
 one_more : (k room : ℕ) (rest : List ℕ) (r : Taken (Row Label)) (t : Taken (List (Row Label))) → RowTaken room rest r →
     RowsTaken k r.room r.rest t → RowsTaken (suc k) room rest (changed (λ rs. r.value ∷ rs) t)
-unfolding linksIn
+unfolding links_in
 one_more k room rest r t taken later =
     record {
       many = ap suc later.many;
@@ -198,18 +198,18 @@ one_more k room rest r t taken later =
           (Memᴰ.cases_cons m);
     }
 
-rows_taken : (k room : ℕ) (rest : List ℕ) (t : Taken (List (Row Label))) → takeRows k room rest ≡ some t → RowsTaken k room rest t
-unfolding bind takeRows
+rows_taken : (k room : ℕ) (rest : List ℕ) (t : Taken (List (Row Label))) → take_rows k room rest ≡ some t → RowsTaken k room rest t
+unfolding bind take_rows
 rows_taken zero room rest t e = subst (RowsTaken 0 room rest) (some-injective e) (no_rows room rest)
 rows_taken (suc k) room rest t e = go (take_row room rest) refl e (rows_taken k)
   where
     go : (o : Option (Taken (Row Label))) → take_row room rest ≡ o →
-        bind o (λ r. map (changed λ rs. r.value ∷ rs) (takeRows k r.room r.rest)) ≡ some t →
-        ((room : ℕ) (rest : List ℕ) (t : Taken (List (Row Label))) → takeRows k room rest ≡ some t → RowsTaken k room rest t) →
+        bind o (λ r. map (changed λ rs. r.value ∷ rs) (take_rows k r.room r.rest)) ≡ some t →
+        ((room : ℕ) (rest : List ℕ) (t : Taken (List (Row Label))) → take_rows k room rest ≡ some t → RowsTaken k room rest t) →
         RowsTaken (suc k) room rest t
     go none h q later = none-some q
     go (some r) h q later =
-        let (s, i, same) = (map-eq-some_iff (changed λ rs. r.value ∷ rs) (takeRows k r.room r.rest)).0 q in
+        let (s, i, same) = (map-eq-some_iff (changed λ rs. r.value ∷ rs) (take_rows k r.room r.rest)).0 q in
         subst (RowsTaken (suc k) room rest) same
         (one_more k room rest r s (row-taken room rest r h) (later r.room r.rest s i))
 
@@ -218,8 +218,8 @@ rows_taken (suc k) room rest t e = go (take_row room rest) refl e (rows_taken k)
 pub record Decoded (bytes : List ℕ) (rows : List (Row Label)) : Type 0 where
   pub nonempty : 0 < length rows
   pub count : length rows ≡ get_or bytes 0 0
-  pub few-links : linksIn rows ≤ 2048
-  pub unranged : length bytes ≤ 1 + 9 * length rows + linksIn rows → (r : Row Label) → Memᴰ r rows → Unranged r
+  pub few-links : links_in rows ≤ 2048
+  pub unranged : length bytes ≤ 1 + 9 * length rows + links_in rows → (r : Row Label) → Memᴰ r rows → Unranged r
   pub ordered : (r : Row Label) → Memᴰ r rows → Proper r
   pub bounded : (r : Row Label) → Memᴰ r rows → AreBytes bytes → Small r
 
@@ -228,7 +228,7 @@ unfolding decoded
 decoded-says [] rows e = none-some e
 decoded-says (n ∷ rest) rows e = counted (eqb n 0) refl e
   where
-    ended : (o : Option (Taken (List (Row Label)))) → takeRows n 2048 rest ≡ o → whole o ≡ some rows →
+    ended : (o : Option (Taken (List (Row Label)))) → take_rows n 2048 rest ≡ o → whole o ≡ some rows →
         (t : Taken (List (Row Label))) × RowsTaken n 2048 rest t × (length t.rest ≡ 0) × (t.value ≡ rows)
     ended none h q = none-some q
     ended (some t) h q =
@@ -246,10 +246,10 @@ decoded-says (n ∷ rest) rows e = counted (eqb n 0) refl e
           bounded = λ r m small. (taken.each r m).1 (λ b i. small b (Memᴰ.tail i));
         }
 
-    counted : (b : Bool) → eqb n 0 ≡ b → cond b none (whole (takeRows n 2048 rest)) ≡ some rows → Decoded (n ∷ rest) rows
+    counted : (b : Bool) → eqb n 0 ≡ b → cond b none (whole (take_rows n 2048 rest)) ≡ some rows → Decoded (n ∷ rest) rows
     counted true h q = none-some q
     counted false h q =
-        let (t, taken, none_left, same) = ended (takeRows n 2048 rest) refl q in
+        let (t, taken, none_left, same) = ended (take_rows n 2048 rest) refl q in
         subst (Decoded (n ∷ rest)) same (says (eqb-false n 0 h) t taken none_left)
 
 -- "Byte 0 is the node count N, 1 to 255 .. one type byte .. one target byte"

@@ -13,8 +13,8 @@ use Rattle.lattice.specs.Label.{Label, plain}
 use Rattle.lattice.specs.Labels.{Known}
 use Rattle.layout.specs.Builder.{unstated}
 use Rattle.decode.specs.declared.rows.LabelStep.TheVariants.{Found, Cut}
-use Rattle.decode.specs.Decode.{isRanged, labelLength, label_of}
-use Rattle.decode.specs.Reader.{labelStep}
+use Rattle.decode.specs.Decode.{is_ranged, label_length, label_of}
+use Rattle.decode.specs.Reader.{label_step}
 use Rattle.decode.proofs.Steps.{ByteTaken}
 
 -- the label with the levels behind its type
@@ -24,25 +24,25 @@ ranged rest = record { type = get_or rest 0 0 % 128; lowest = get_or rest 1 0; h
 -- a type has seven bits, a level is a byte
 pub label-known : (rest : List ℕ) → ((i : ℕ) → get_or rest i 0 < 256) → Known 128 (label_of rest)
 unfolding label_of
-label-known rest small = go (isRanged (get_or rest 0 0))
+label-known rest small = go (is_ranged (get_or rest 0 0))
   where
     go : (b : Bool) → Known 128 (cond b (ranged rest) (plain (get_or rest 0 0 % 128)))
     go true = record { type = omega arith; lowest = omega (arith, small 1); highest = omega (arith, small 2) }
     go false = record { type = omega arith; lowest = omega arith; highest = omega arith }
 
 -- a label has a type byte at least
-pub label-long : (rest : List ℕ) → 1 ≤ labelLength rest
-unfolding labelLength
-label-long rest = go (isRanged (get_or rest 0 0))
+pub label-long : (rest : List ℕ) → 1 ≤ label_length rest
+unfolding label_length
+label-long rest = go (is_ranged (get_or rest 0 0))
   where
     go : (b : Bool) → 1 ≤ cond b 3 1
     go true = omega arith
     go false = omega arith
 
 -- a label of one byte is a type alone
-pub label-alone : (rest : List ℕ) → labelLength rest ≡ 1 → label_of rest ≡ plain (label_of rest).type
-unfolding labelLength label_of
-label-alone rest = go (isRanged (get_or rest 0 0))
+pub label-alone : (rest : List ℕ) → label_length rest ≡ 1 → label_of rest ≡ plain (label_of rest).type
+unfolding label_length label_of
+label-alone rest = go (is_ranged (get_or rest 0 0))
   where
     label : Bool → Label
     label b = cond b (ranged rest) (plain (get_or rest 0 0 % 128))
@@ -58,18 +58,18 @@ module _ (bytes : List ℕ) (at : ℕ) where
   first-is : get_or rest 0 0 ≡ get_or bytes at 0
   first-is = get_or-drop at bytes 0 0 ∙ ap (λ (k : ℕ). get_or bytes k 0) (add-zero at)
 
-  step_cut : length bytes - at < labelLength rest → Cut ≡ labelStep bytes at
-  step_cut short = rw (lt-leb (labelLength rest) (length bytes - at) short) refl
+  step_cut : length bytes - at < label_length rest → Cut ≡ label_step bytes at
+  step_cut short = rw (lt-leb (label_length rest) (length bytes - at) short) refl
 
-  step-found : {l : Label} {n : ℕ} → label_of rest ≡ l → labelLength rest ≡ n → n ≤ length bytes - at →
-      Found (unstated l) (at + n) ≡ labelStep bytes at
+  step-found : {l : Label} {n : ℕ} → label_of rest ≡ l → label_length rest ≡ n → n ≤ length bytes - at →
+      Found (unstated l) (at + n) ≡ label_step bytes at
   step-found {l} {n} e f inside =
       ap₂ (λ (x : Label) (k : ℕ). Found (unstated x) (at + k)) (sym e) (sym f)
-      ∙ sym (ap (λ (b : Bool). cond b (Found (unstated (label_of rest)) (at + labelLength rest)) Cut)
-      (le-leb (labelLength rest) (length bytes - at) (omega arith)))
+      ∙ sym (ap (λ (b : Bool). cond b (Found (unstated (label_of rest)) (at + label_length rest)) Cut)
+      (le-leb (label_length rest) (length bytes - at) (omega arith)))
 
   -- no byte
-  pub label-ended : length bytes ≤ at → Cut ≡ labelStep bytes at
+  pub label-ended : length bytes ≤ at → Cut ≡ label_step bytes at
   label-ended h = step_cut (omega (arith, label-long rest))
 
   module _ {b behind : ℕ} (t : ByteTaken bytes at b behind) where
@@ -77,30 +77,30 @@ module _ (bytes : List ℕ) (at : ℕ) where
     type-is = first-is ∙ sym t.byte-is
 
     -- a type alone
-    pub label-plain : b < 128 → Found (unstated (plain b)) behind ≡ labelStep bytes at
-    unfolding label_of labelLength
+    pub label-plain : b < 128 → Found (unstated (plain b)) behind ≡ label_step bytes at
+    unfolding label_of label_length
     label-plain h =
         ap (Found (unstated (plain b))) t.next-is
         ∙ step-found (ap (λ (c : Bool). cond c (ranged rest) (plain (get_or rest 0 0 % 128))) alone ∙ ap plain (omega (arith, type-is)))
         (ap (λ (c : Bool). cond c 3 1) alone) (omega (arith, t.inside))
       where
-        alone : isRanged (get_or rest 0 0) ≡ false
+        alone : is_ranged (get_or rest 0 0) ≡ false
         alone = lt-leb 128 (get_or rest 0 0) (omega (arith, type-is))
 
-    has-range : 128 ≤ b → isRanged (get_or rest 0 0) ≡ true
+    has-range : 128 ≤ b → is_ranged (get_or rest 0 0) ≡ true
     has-range h = le-leb 128 (get_or rest 0 0) (omega (arith, type-is))
 
-    ranged-length : 128 ≤ b → labelLength rest ≡ 3
-    unfolding labelLength
+    ranged-length : 128 ≤ b → label_length rest ≡ 3
+    unfolding label_length
     ranged-length h = ap (λ (c : Bool). cond c 3 1) (has-range h)
 
     -- no byte for a level
-    pub label-unranged : 128 ≤ b → length bytes ≤ at + 2 → Cut ≡ labelStep bytes at
+    pub label-unranged : 128 ≤ b → length bytes ≤ at + 2 → Cut ≡ label_step bytes at
     label-unranged h short = step_cut (omega (arith, ranged-length h))
 
     -- a type and two levels
     pub label-ranged : {low after high next : ℕ} → 128 ≤ b → b < 256 → ByteTaken bytes behind low after → ByteTaken bytes after high next →
-        Found (unstated (record { type = b - 128; lowest = low; highest = high })) next ≡ labelStep bytes at
+        Found (unstated (record { type = b - 128; lowest = low; highest = high })) next ≡ label_step bytes at
     unfolding label_of
     label-ranged {low} {high = high} h small l m =
         ap (Found (unstated (record { type = b - 128; lowest = low; highest = high }))) (omega (arith, t.next-is, l.next-is, m.next-is))

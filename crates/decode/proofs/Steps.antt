@@ -16,9 +16,9 @@ use Rattle.decode.specs.declared.rows.LabelStep.TheVariants as label
 use Rattle.lattice.specs.Label.{Label}
 use Rattle.layout.specs.declared.Label.{Label as Stated}
 use Rattle.layout.specs.Builder.{stated, unstated}
-use Rattle.decode.specs.Decode.{labelLength, label_of}
+use Rattle.decode.specs.Decode.{label_length, label_of}
 use Rattle.decode.specs.Word.{word_of}
-use Rattle.decode.specs.Reader.{byteStep, map_step, labelStep}
+use Rattle.decode.specs.Reader.{byte_step, map_step, label_step}
 
 -- The byte b is taken at position `at`.
 pub record ByteTaken (bytes : List ℕ) (at b next : ℕ) : Type 0 where
@@ -34,11 +34,11 @@ pub record MapTaken (bytes : List ℕ) (at word next : ℕ) : Type 0 where
 
 -- The label l is taken at position `at`.
 pub record LabelTaken (bytes : List ℕ) (at : ℕ) (l : Label) (next : ℕ) : Type 0 where
-  pub inside : labelLength (drop at bytes) ≤ length bytes - at
+  pub inside : label_length (drop at bytes) ≤ length bytes - at
   pub label_is : l ≡ label_of (drop at bytes)
-  pub next-is : next ≡ at + labelLength (drop at bytes)
+  pub next-is : next ≡ at + label_length (drop at bytes)
 
-module _ (bytes : List ℕ) (at : ℕ) {s : Step} (e : s ≡ byteStep bytes at) where
+module _ (bytes : List ℕ) (at : ℕ) {s : Step} (e : s ≡ byte_step bytes at) where
   pub byte-taken : {b next : ℕ} → s ≡ Byte b next → ByteTaken bytes at b next
   byte-taken {b} {next} t = go (ltb at (length bytes)) refl (sym e ∙ t)
     where
@@ -70,9 +70,9 @@ module _ (bytes : List ℕ) (at : ℕ) {s : MapStep} (e : s ≡ map_step bytes a
       go true h q = absurd (let z : ◌≡◌ {A = ℕ} 0 1 = cc in omega arith)
       go false h q = leb-false 8 (length bytes - at) h
 
-module _ (bytes : List ℕ) (at : ℕ) {s : LabelStep} (e : s ≡ labelStep bytes at) where
+module _ (bytes : List ℕ) (at : ℕ) {s : LabelStep} (e : s ≡ label_step bytes at) where
   abbrev long : ℕ
-  long = labelLength (drop at bytes)
+  long = label_length (drop at bytes)
 
   abbrev found : LabelStep
   found = label.Found (unstated (label_of (drop at bytes))) (at + long)

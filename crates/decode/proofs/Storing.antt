@@ -17,16 +17,16 @@ use Rattle.graphs.proofs.Walk.{some-injective, none-some}
 use Rattle.lattice.specs.Label.{Label}
 use Rattle.lattice.specs.Words.{without}
 use Rattle.lattice.proofs.Bits.{lowest-bit, lowest-cleared}
-use Rattle.layout.specs.Layout.{header, longest, labelFrom, linkWord, size, linksBetween, rows_from, rows_of}
-use Rattle.layout.specs.Builder.{Built, Open, Same, putLabel}
+use Rattle.layout.specs.Layout.{header, longest, label_from, link_word, size, links_between, rows_from, rows_of}
+use Rattle.layout.specs.Builder.{Built, Open, Same, put_label}
 use Rattle.layout.proofs.Spans.{links-none}
 use Rattle.layout.proofs.Builder.{same-before, same-trans, label_same, length-put, put-before, label-put, links-put, built-kept, rows-kept, built-begin, row_closes, closed-rows, built-shaped}
 use Rattle.decode.specs.declared.rows.RowEnd.{RowEnd}
 use Rattle.decode.specs.declared.rows.RowEnd.TheVariants.{At, Short}
 use Rattle.decode.specs.Answers.{Parses, Roomy}
-use Rattle.decode.specs.Decode.{Taken, changed, takeTarget, take_row, takeRows, whole, decoded}
-use Rattle.decode.specs.Storing.{RowsFit, Stored, Took, rowBetween}
-use Rattle.decode.specs.Word.{takeWord}
+use Rattle.decode.specs.Decode.{Taken, changed, take_target, take_row, take_rows, whole, decoded}
+use Rattle.decode.specs.Storing.{RowsFit, Stored, Took, row_between}
+use Rattle.decode.specs.Word.{take_word}
 use Rattle.decode.proofs.Decoded.{are-bytes, decoded-says, decoded-orderly}
 use Rattle.decode.proofs.Labels.{label-known}
 use Rattle.decode.proofs.Reading.{after, after_none, after_more, no_room, no_bytes, one-target, untaken, row_is, Counted, rows-one, decoded-rows}
@@ -38,7 +38,7 @@ use Rattle.decode.proofs.Word.{first-digit, word_none}
 -- `read` is the links that stand between `at` and `end`, and those that the digits of `left` state.
 pub record Linking (read : Option (Taken (List (ℕ × ℕ)))) (bytes : List ℕ) (start at limit : ℕ) (ws₀ ws : List ℕ) (left next end : ℕ) : Type 0 where
   pub small : left < 2 ^ 64
-  pub read_is : read ≡ after (linksBetween ws at end) (takeWord 64 0 left (limit - end) (drop next bytes))
+  pub read_is : read ≡ after (links_between ws at end) (take_word 64 0 left (limit - end) (drop next bytes))
   pub low : at ≤ end
   pub room : end ≤ limit
   pub inside : next ≤ length bytes
@@ -49,13 +49,13 @@ pub record Linking (read : Option (Taken (List (ℕ × ℕ)))) (bytes : List ℕ
   pub few : limit ≤ longest
 
 pub link-begin : (bytes : List ℕ) (word start at limit : ℕ) (ws : List ℕ) → word < 2 ^ 64 → RowsFit bytes start at limit ws →
-    Linking (takeWord 64 0 word (limit - at) (drop start bytes)) bytes start at limit ws ws word start at
+    Linking (take_word 64 0 word (limit - at) (drop start bytes)) bytes start at limit ws ws word start at
 link-begin bytes word start at limit ws small f =
     record {
       small = small;
       read_is =
-          after_none (takeWord 64 0 word (limit - at) (drop start bytes))
-          ∙ ap (λ (ls : List (ℕ × ℕ)). after ls (takeWord 64 0 word (limit - at) (drop start bytes))) (sym (links-none ws at));
+          after_none (take_word 64 0 word (limit - at) (drop start bytes))
+          ∙ ap (λ (ls : List (ℕ × ℕ)). after ls (take_word 64 0 word (limit - at) (drop start bytes))) (sym (links-none ws at));
       low = omega arith;
       room = f.room;
       inside = f.inside;
@@ -76,28 +76,28 @@ module _ {read : Option (Taken (List (ℕ × ℕ)))} {bytes : List ℕ} {start a
   link-feature n = (lowest-bit 64 left s.small (omega arith)).0
 
   read_next : (left ≡ 0 → ⊥) →
-      read ≡ after (linksBetween ws at end)
-      (takeTarget (count_trailing_zeros 64 left) (takeWord 64 0 (bit_and left (left - 1))) (limit - end) (drop next bytes))
+      read ≡ after (links_between ws at end)
+      (take_target (count_trailing_zeros 64 left) (take_word 64 0 (bit_and left (left - 1))) (limit - end) (drop next bytes))
   read_next n =
       let e : 0 + count_trailing_zeros 64 left ≡ count_trailing_zeros 64 left = omega arith in
       s.read_is
-      ∙ ap (after (linksBetween ws at end)) (first-digit 64 0 left s.small n (limit - end) (drop next bytes)
-      ∙ ap (λ (f : ℕ). takeTarget f (takeWord 64 0 (bit_and left (left - 1))) (limit - end) (drop next bytes)) e)
+      ∙ ap (after (links_between ws at end)) (first-digit 64 0 left s.small n (limit - end) (drop next bytes)
+      ∙ ap (λ (f : ℕ). take_target f (take_word 64 0 (bit_and left (left - 1))) (limit - end) (drop next bytes)) e)
 
   pub link-room : end < limit → next < length bytes → end < length ws
   link-room h l = omega (arith, inside-words end next s.words h l, s.long)
 
   pub link-full : (left ≡ 0 → ⊥) → limit ≤ end → read ≡ none
   unfolding after
-  link-full n h = read_next n ∙ ap (after (linksBetween ws at end)) (no_room _ _ (limit - end) (drop next bytes) (omega arith))
+  link-full n h = read_next n ∙ ap (after (links_between ws at end)) (no_room _ _ (limit - end) (drop next bytes) (omega arith))
 
   pub link-short : (left ≡ 0 → ⊥) → length bytes ≤ next → read ≡ none
   unfolding after
   link-short n h =
-      read_next n ∙ ap (after (linksBetween ws at end)) (no_bytes _ _ (limit - end) (drop next bytes) (drop_of_length-le bytes h))
+      read_next n ∙ ap (after (links_between ws at end)) (no_bytes _ _ (limit - end) (drop next bytes) (drop_of_length-le bytes h))
 
   link-step : (left ≡ 0 → ⊥) → end < limit → next < length bytes → get_or bytes next 0 < 256 →
-      Linking read bytes start at limit ws₀ (set ws end (linkWord (count_trailing_zeros 64 left, get_or bytes next 0)))
+      Linking read bytes start at limit ws₀ (set ws end (link_word (count_trailing_zeros 64 left, get_or bytes next 0)))
       (bit_and left (left - 1)) (next + 1) (end + 1)
   link-step n h l small =
       let link : ℕ × ℕ = (count_trailing_zeros 64 left, get_or bytes next 0) in
@@ -107,44 +107,44 @@ module _ {read : Option (Taken (List (ℕ × ℕ)))} {bytes : List ℕ} {start a
         small = omega (arith, s.small, and_le_l left (left - 1));
         read_is =
             read_next n
-            ∙ ap (λ (l : List ℕ). after (linksBetween ws at end) (takeTarget (count_trailing_zeros 64 left) (takeWord 64 0 others) (limit - end) l))
+            ∙ ap (λ (l : List ℕ). after (links_between ws at end) (take_target (count_trailing_zeros 64 left) (take_word 64 0 others) (limit - end) l))
             (drop-cons bytes next 0 l)
-            ∙ ap (after (linksBetween ws at end)) (one-target (count_trailing_zeros 64 left) (takeWord 64 0 others)
+            ∙ ap (after (links_between ws at end)) (one-target (count_trailing_zeros 64 left) (take_word 64 0 others)
             (limit - end) (limit - (end + 1)) (get_or bytes next 0) (drop (suc next) bytes) (omega arith))
-            ∙ after_more (linksBetween ws at end) link (takeWord 64 0 others (limit - (end + 1)) (drop (suc next) bytes))
-            ∙ ap (λ (k : ℕ). after (linksBetween ws at end ++ (link ∷ [])) (takeWord 64 0 others (limit - (end + 1)) (drop k bytes)))
+            ∙ after_more (links_between ws at end) link (take_word 64 0 others (limit - (end + 1)) (drop (suc next) bytes))
+            ∙ ap (λ (k : ℕ). after (links_between ws at end ++ (link ∷ [])) (take_word 64 0 others (limit - (end + 1)) (drop k bytes)))
             (sym (add-one next))
-            ∙ ap (λ (ls : List (ℕ × ℕ)). after ls (takeWord 64 0 others (limit - (end + 1)) (drop (next + 1) bytes)))
+            ∙ ap (λ (ls : List (ℕ × ℕ)). after ls (take_word 64 0 others (limit - (end + 1)) (drop (next + 1) bytes)))
             (sym (links-put ws at end link s.low here (omega arith)));
         low = omega (arith, s.low);
         room = omega arith;
         inside = omega arith;
-        before = same-trans ws₀ ws (set ws end (linkWord link)) s.before (same-before ws end (linkWord link) 0 at s.low);
-        long = length-set ws end (linkWord link) ∙ s.long;
+        before = same-trans ws₀ ws (set ws end (link_word link)) s.before (same-before ws end (link_word link) 0 at s.low);
+        long = length-set ws end (link_word link) ∙ s.long;
         pace = omega (arith, s.pace);
         words = omega (arith, s.words);
         few = s.few;
       }
 
   pub link-next : {b behind word others : ℕ} → (left ≡ 0 → ⊥) → end < limit → b < 256 → ByteTaken bytes next b behind →
-      word ≡ linkWord (count_trailing_zeros 64 left, b) → others ≡ without left (2 ^ count_trailing_zeros 64 left) →
+      word ≡ link_word (count_trailing_zeros 64 left, b) → others ≡ without left (2 ^ count_trailing_zeros 64 left) →
       Linking read bytes start at limit ws₀ (set ws end word) others behind (end + 1)
   link-next {b} {behind} {word} {others} n h small t e o =
       subst (λ (l : ℕ). Linking read bytes start at limit ws₀ (set ws end word) l behind (end + 1))
       (lowest-cleared left s.small (omega arith) ∙ sym o)
       (subst₂ (λ (w k : ℕ). Linking read bytes start at limit ws₀ (set ws end w) (bit_and left (left - 1)) k (end + 1))
-      (ap (λ (b : ℕ). linkWord (count_trailing_zeros 64 left, b)) (sym t.byte-is) ∙ sym e) (sym t.next-is)
+      (ap (λ (b : ℕ). link_word (count_trailing_zeros 64 left, b)) (sym t.byte-is) ∙ sym e) (sym t.next-is)
       (link-step n h t.inside (omega (arith, t.byte-is))))
 
-  pub link-end : left ≡ 0 → Stored (linksBetween ws at end) read bytes limit next end
+  pub link-end : left ≡ 0 → Stored (links_between ws at end) read bytes limit next end
   unfolding after
   link-end e =
       record {
         read_is =
             s.read_is
-            ∙ ap (λ (w : ℕ). after (linksBetween ws at end) (takeWord 64 0 w (limit - end) (drop next bytes))) e
-            ∙ ap (after (linksBetween ws at end)) (word_none 64 0 (limit - end) (drop next bytes))
-            ∙ ap (λ ls. some (record { value = ls; room = limit - end; rest = drop next bytes })) (append-nil (linksBetween ws at end));
+            ∙ ap (λ (w : ℕ). after (links_between ws at end) (take_word 64 0 w (limit - end) (drop next bytes))) e
+            ∙ ap (after (links_between ws at end)) (word_none 64 0 (limit - end) (drop next bytes))
+            ∙ ap (λ ls. some (record { value = ls; room = limit - end; rest = drop next bytes })) (append-nil (links_between ws at end));
         room = s.room;
         inside = s.inside;
       }
@@ -184,9 +184,9 @@ module _ {X : Type 0} {found : List ℕ → ℕ → ℕ → X} {least : ℕ} {re
 -- the row whose label and map the reader took, and whose links were stored behind its label, or not
 pub row_read : (bytes : List ℕ) (start at limit : ℕ) (ws : List ℕ) {opened : List ℕ} {answer : RowEnd} {ws' : List ℕ} {l : Label}
     {behind word first : ℕ} → ((i : ℕ) → get_or bytes i 0 < 256) → at + header ≤ length ws → LabelTaken bytes start l behind →
-    MapTaken bytes behind word first → opened ≡ putLabel ws at l →
-    Took linksBetween 0 (takeWord 64 0 word (limit - (at + header)) (drop first bytes)) bytes first (at + header) limit opened answer ws' →
-    Took rowBetween header (take_row (limit - (at + header)) (drop start bytes)) bytes start at limit ws answer ws'
+    MapTaken bytes behind word first → opened ≡ put_label ws at l →
+    Took links_between 0 (take_word 64 0 word (limit - (at + header)) (drop first bytes)) bytes first (at + header) limit opened answer ws' →
+    Took row_between header (take_row (limit - (at + header)) (drop start bytes)) bytes start at limit ws answer ws'
 row_read bytes start at limit ws {opened} {answer} {ws'} {l} {behind} {word} {first} small inside labelled mapped put t =
     record {
       short-stands = λ q. same ∙ ap (map (changed more)) (t.short-stands q);
@@ -198,7 +198,7 @@ row_read bytes start at limit ws {opened} {answer} {ws'} {l} {behind} {word} {fi
                   same
                   ∙ ap (map (changed more)) s.read_is
                   ∙ ap (λ (x : Label). some
-                  (record { value = (x, linksBetween ws' (at + header) end); room = limit - end; rest = drop next bytes })) (sym label);
+                  (record { value = (x, links_between ws' (at + header) end); room = limit - end; rest = drop next bytes })) (sym label);
               room = s.room;
               inside = s.inside;
             },
@@ -218,14 +218,14 @@ row_read bytes start at limit ws {opened} {answer} {ws'} {l} {behind} {word} {fi
         subst (λ (x : Label). x.highest ≤ 255) (sym labelled.label_is)
         (label-known (drop start bytes) (λ i. rw get_or-drop (small (start + i)))).highest
 
-    label : labelFrom ws' at ≡ l
+    label : label_from ws' at ≡ l
     label =
         label_same opened ws' at (λ k low high. t.before k (omega arith) high)
-        ∙ ap (λ (new : List ℕ). labelFrom new at) put
+        ∙ ap (λ (new : List ℕ). label_from new at) put
         ∙ label-put ws at l inside highest
 
     same : take_row (limit - (at + header)) (drop start bytes)
-        ≡ map (changed more) (takeWord 64 0 word (limit - (at + header)) (drop first bytes))
+        ≡ map (changed more) (take_word 64 0 word (limit - (at + header)) (drop first bytes))
     same = row_is bytes start (limit - (at + header)) small labelled mapped
 
 -- A record.
@@ -234,7 +234,7 @@ row_read bytes start at limit ws {opened} {answer} {ws'} {l} {behind} {word} {fi
 pub record Filling (bytes : List ℕ) (nodes room : ℕ) (ws : List ℕ) (at limit next v : ℕ) : Type 0 where
   pub todo : ℕ
   pub up_to : v + todo ≡ nodes
-  pub read_is : takeRows nodes 2048 (drop 1 bytes) ≡ after (rows_from ws 0 v) (takeRows todo (limit - at) (drop next bytes))
+  pub read_is : take_rows nodes 2048 (drop 1 bytes) ≡ after (rows_from ws 0 v) (take_rows todo (limit - at) (drop next bytes))
   pub inside : next ≤ length bytes
   pub limited : limit ≡ nodes + 2 + 2048 + v * header
   pub below : at ≤ limit
@@ -261,8 +261,8 @@ fill-begin bytes nodes next ws n roomy =
       todo = nodes;
       up_to = omega arith;
       read_is =
-          after_none (takeRows nodes 2048 (drop 1 bytes))
-          ∙ ap₂ (λ (k r : ℕ). after [] (takeRows nodes r (drop k bytes))) (sym n.taken.next-is) (sym room);
+          after_none (take_rows nodes 2048 (drop 1 bytes))
+          ∙ ap₂ (λ (k r : ℕ). after [] (take_rows nodes r (drop k bytes))) (sym n.taken.next-is) (sym room);
       inside = omega (arith, n.taken.inside, n.taken.next-is);
       limited = omega arith;
       below = omega arith;
@@ -298,11 +298,11 @@ module _ {bytes : List ℕ} {nodes room : ℕ} {ws : List ℕ} {at limit next v 
       ∙ ap whole (s.read_is
       ∙ ap (after (rows_from ws 0 v)) (rows-one s.todo (limit - at) (drop next bytes) (omega (arith, s.up_to))
       ∙ ap (λ (o : Option (Taken (Row Label))). bind o λ r. map (changed λ rs. r.value ∷ rs)
-      (takeRows (s.todo - 1) r.room r.rest)) (ap (λ (r : ℕ). take_row r (drop next bytes)) (sym row_room) ∙ e)))
+      (take_rows (s.todo - 1) r.room r.rest)) (ap (λ (r : ℕ). take_row r (drop next bytes)) (sym row_room) ∙ e)))
 
   -- one row more
   pub fill-next : (behind end : ℕ) (answer : RowEnd) (ws' : List ℕ) → nodes ≤ 255 → v < nodes →
-      Took rowBetween header (take_row (limit + header - (at + header)) (drop next bytes)) bytes next at (limit + header) ws answer ws' →
+      Took row_between header (take_row (limit + header - (at + header)) (drop next bytes)) bytes next at (limit + header) ws answer ws' →
       answer ≡ At behind end →
       Filling bytes nodes room (set ws' (v + 2) end) end (limit + header) behind (v + 1)
   unfolding bind
@@ -314,10 +314,10 @@ module _ {bytes : List ℕ} {nodes room : ℕ} {ws : List ℕ} {at limit next v 
             s.read_is
             ∙ ap (after rows) (rows-one s.todo (limit - at) (drop next bytes) (omega (arith, s.up_to))
             ∙ ap (λ (o : Option (Taken (Row Label))). bind o λ r. map (changed λ rs. r.value ∷ rs)
-            (takeRows (s.todo - 1) r.room r.rest))
+            (take_rows (s.todo - 1) r.room r.rest))
             (ap (λ (r : ℕ). take_row r (drop next bytes)) (sym row_room) ∙ stored.read_is))
-            ∙ after_more rows (rowBetween ws' at end) (takeRows (s.todo - 1) (limit + header - end) (drop behind bytes))
-            ∙ ap (λ (l : List (Row Label)). after l (takeRows (s.todo - 1) (limit + header - end) (drop behind bytes))) (sym rows_are);
+            ∙ after_more rows (row_between ws' at end) (take_rows (s.todo - 1) (limit + header - end) (drop behind bytes))
+            ∙ ap (λ (l : List (Row Label)). after l (take_rows (s.todo - 1) (limit + header - end) (drop behind bytes))) (sym rows_are);
         inside = stored.inside;
         limited = omega (arith, s.limited);
         below = stored.room;
@@ -333,7 +333,7 @@ module _ {bytes : List ℕ} {nodes room : ℕ} {ws : List ℕ} {at limit next v 
       rows : List (Row Label)
       rows = rows_from ws 0 v
 
-      stored : Stored (rowBetween ws' at end) (take_row (limit + header - (at + header)) (drop next bytes)) bytes (limit + header) behind end
+      stored : Stored (row_between ws' at end) (take_row (limit + header - (at + header)) (drop next bytes)) bytes (limit + header) behind end
       stored = (t.at-stands behind end e).1
 
       starts : Same ws ws' 1 (v + 2)
@@ -347,20 +347,20 @@ module _ {bytes : List ℕ} {nodes room : ℕ} {ws : List ℕ} {at limit next v 
             inside = omega (arith, stored.room, fill-room small h, t.long, s.long, s.words, t.spare behind end e, s.inside, stored.inside);
           }
 
-      rows_are : rows_from (set ws' (v + 2) end) 0 (v + 1) ≡ rows ++ (rowBetween ws' at end ∷ [])
+      rows_are : rows_from (set ws' (v + 2) end) 0 (v + 1) ≡ rows ++ (row_between ws' at end ∷ [])
       rows_are =
           closed-rows row (omega arith)
-          ∙ ap (λ (l : List (Row Label)). l ++ (rowBetween ws' at end ∷ []))
+          ∙ ap (λ (l : List (Row Label)). l ++ (row_between ws' at end ∷ []))
           (rows-kept s.built ws' t.long starts (λ k low high. t.before k (omega arith) high))
 
   -- all rows were read
-  rows_all : nodes ≤ v → takeRows nodes 2048 (drop 1 bytes) ≡ some (record { value = rows_of ws; room = limit - at; rest = drop next bytes })
-  unfolding after takeRows
+  rows_all : nodes ≤ v → take_rows nodes 2048 (drop 1 bytes) ≡ some (record { value = rows_of ws; room = limit - at; rest = drop next bytes })
+  unfolding after take_rows
   rows_all h =
       let none_left : s.todo ≡ 0 = omega (arith, s.up_to) in
       let all : v ≡ size ws = omega (arith, s.up_to, s.sized) in
       s.read_is
-      ∙ ap (λ (k : ℕ). after (rows_from ws 0 v) (takeRows k (limit - at) (drop next bytes))) none_left
+      ∙ ap (λ (k : ℕ). after (rows_from ws 0 v) (take_rows k (limit - at) (drop next bytes))) none_left
       ∙ ap (λ (l : List (Row Label)). some (record { value = l; room = limit - at; rest = drop next bytes })) (append-nil (rows_from ws 0 v))
       ∙ ap (λ (k : ℕ). some (record { value = rows_from ws 0 k; room = limit - at; rest = drop next bytes })) all
 

@@ -17,8 +17,8 @@ use lib.Pow.{shr-shr, shr_lt, high, pow-add, pow_mono}
 use lib.Seq.{get_or-drop, drop-drop}
 use Rattle.graphs.specs.Rows.{from}
 use Rattle.lattice.proofs.Bits.{half-shift}
-use Rattle.decode.specs.Decode.{takeTarget, takeLinks}
-use Rattle.decode.specs.Word.{word_of, takeWord}
+use Rattle.decode.specs.Decode.{take_target, take_links}
+use Rattle.decode.specs.Word.{word_of, take_word}
 
 no_shift : (w : ℕ) → w / 1 ≡ w
 no_shift w = omega arith
@@ -110,8 +110,8 @@ join-end {bytes} {at} {i = i} s e =
 
 -- links by digits are links by features
 pub word-links : (stands : ℕ → Bool) (k f w : ℕ) → ((i : ℕ) → i < k → eqb (w / 2 ^ i % 2) 1 ≡ stands (f + i)) →
-    (room : ℕ) (rest : List ℕ) → takeWord k f w room rest ≡ takeLinks stands (from f k) room rest
-unfolding takeWord takeLinks from
+    (room : ℕ) (rest : List ℕ) → take_word k f w room rest ≡ take_links stands (from f k) room rest
+unfolding take_word take_links from
 word-links stands zero f w same room rest = refl
 word-links stands (suc k) f w same room rest = go (word-links stands k (suc f) (w / 2) onward-same)
   where
@@ -122,22 +122,22 @@ word-links stands (suc k) f w same room rest = go (word-links stands k (suc f) (
     first : eqb (w % 2) 1 ≡ stands f
     first = ap (λ (x : ℕ). eqb (x % 2) 1) (sym (no_shift w)) ∙ same 0 (omega arith) ∙ ap stands (add-zero f)
 
-    go : ((room : ℕ) (rest : List ℕ) → takeWord k (suc f) (w / 2) room rest ≡ takeLinks stands (from (suc f) k) room rest) →
-        cond (eqb (w % 2) 1) (takeTarget f (takeWord k (suc f) (w / 2)) room rest) (takeWord k (suc f) (w / 2) room rest)
-        ≡ cond (stands f) (takeTarget f (takeLinks stands (from (suc f) k)) room rest) (takeLinks stands (from (suc f) k) room rest)
-    go ih = λ i. cond (first i) (takeTarget f (λ r s. ih r s i) room rest) (ih room rest i)
+    go : ((room : ℕ) (rest : List ℕ) → take_word k (suc f) (w / 2) room rest ≡ take_links stands (from (suc f) k) room rest) →
+        cond (eqb (w % 2) 1) (take_target f (take_word k (suc f) (w / 2)) room rest) (take_word k (suc f) (w / 2) room rest)
+        ≡ cond (stands f) (take_target f (take_links stands (from (suc f) k)) room rest) (take_links stands (from (suc f) k) room rest)
+    go ih = λ i. cond (first i) (take_target f (λ r s. ih r s i) room rest) (ih room rest i)
 
 -- a digit that does not stand states no link
 even-digit : (k f w v : ℕ) → w % 2 ≡ 0 → w / 2 ≡ v → (room : ℕ) (rest : List ℕ) →
-    takeWord (suc k) f w room rest ≡ takeWord k (suc f) v room rest
-unfolding takeWord
+    take_word (suc k) f w room rest ≡ take_word k (suc f) v room rest
+unfolding take_word
 even-digit k f w v e h room rest =
-    ap₂ (λ (d x : ℕ). cond (eqb d 1) (takeTarget f (takeWord k (suc f) x) room rest) (takeWord k (suc f) x room rest)) e h
+    ap₂ (λ (d x : ℕ). cond (eqb d 1) (take_target f (take_word k (suc f) x) room rest) (take_word k (suc f) x room rest)) e h
 
 -- the lowest standing digit of a word states the first link, and the word with it cleared the others
 pub first-digit : (k f w : ℕ) → w < 2 ^ k → (w ≡ 0 → ⊥) → (room : ℕ) (rest : List ℕ) →
-    takeWord k f w room rest ≡ takeTarget (f + count_trailing_zeros k w) (takeWord k f (bit_and w (w - 1))) room rest
-unfolding count_trailing_zeros takeWord
+    take_word k f w room rest ≡ take_target (f + count_trailing_zeros k w) (take_word k f (bit_and w (w - 1))) room rest
+unfolding count_trailing_zeros take_word
 first-digit zero f w l n room rest = absurd (n (lt-one l))
 first-digit (suc k) f w l n room rest = go (w % 2) refl (first-digit k (suc f) (w / 2) half)
   where
@@ -145,14 +145,14 @@ first-digit (suc k) f w l n room rest = go (w % 2) refl (first-digit k (suc f) (
     half = shr_lt k 1 (subst (λ (x : ℕ). w < 2 ^ x) (omega arith) l)
 
     cleared : (v : ℕ) → bit_and w (w - 1) ≡ v * 2 → (room : ℕ) (rest : List ℕ) →
-        takeWord k (suc f) v room rest ≡ takeWord (suc k) f (bit_and w (w - 1)) room rest
+        take_word k (suc f) v room rest ≡ take_word (suc k) f (bit_and w (w - 1)) room rest
     cleared v e room rest = sym (even-digit k f (bit_and w (w - 1)) v (omega arith) (omega arith) room rest)
 
     go : (d : ℕ) → w % 2 ≡ d →
-        ((w / 2 ≡ 0 → ⊥) → (room : ℕ) (rest : List ℕ) → takeWord k (suc f) (w / 2) room rest
-        ≡ takeTarget (suc f + count_trailing_zeros k (w / 2)) (takeWord k (suc f) (bit_and (w / 2) (w / 2 - 1))) room rest) →
-        takeWord (suc k) f w room rest
-        ≡ takeTarget (f + under d (count_trailing_zeros k (w / 2))) (takeWord (suc k) f (bit_and w (w - 1))) room rest
+        ((w / 2 ≡ 0 → ⊥) → (room : ℕ) (rest : List ℕ) → take_word k (suc f) (w / 2) room rest
+        ≡ take_target (suc f + count_trailing_zeros k (w / 2)) (take_word k (suc f) (bit_and (w / 2) (w / 2 - 1))) room rest) →
+        take_word (suc k) f w room rest
+        ≡ take_target (f + under d (count_trailing_zeros k (w / 2))) (take_word (suc k) f (bit_and w (w - 1))) room rest
     go zero e ih =
         let before : (w - 1) / 2 ≡ w / 2 - 1 = omega arith in
         let odd : (w - 1) % 2 ≡ 1 = omega arith in
@@ -160,18 +160,18 @@ first-digit (suc k) f w l n room rest = go (w % 2) refl (first-digit k (suc f) (
         let place : suc f + count_trailing_zeros k (w / 2) ≡ f + suc (count_trailing_zeros k (w / 2)) = omega arith in
         even-digit k f w (w / 2) e refl room rest
         ∙ ih (λ q. n (omega arith)) room rest
-        ∙ (λ i. takeTarget (place i) (λ r s. cleared (bit_and (w / 2) (w / 2 - 1)) both r s i) room rest)
+        ∙ (λ i. take_target (place i) (λ r s. cleared (bit_and (w / 2) (w / 2 - 1)) both r s i) room rest)
     go (suc d) e ih =
         let own : w % 2 ≡ 1 = omega (arith, mod-lt w {m = 2} (omega arith)) in
         let before : (w - 1) / 2 ≡ w / 2 = omega arith in
         let even : (w - 1) % 2 ≡ 0 = omega arith in
         let both : bit_and w (w - 1) ≡ w / 2 * 2 = and_step w (w - 1) ∙ rw (before, even, own, and_self (w / 2)) (omega arith) in
-        ap (λ (b : Bool). cond b (takeTarget f (takeWord k (suc f) (w / 2)) room rest) (takeWord k (suc f) (w / 2) room rest))
+        ap (λ (b : Bool). cond b (take_target f (take_word k (suc f) (w / 2)) room rest) (take_word k (suc f) (w / 2) room rest))
         (eq-eqb (w % 2) 1 own)
-        ∙ (λ i. takeTarget (sym (add-zero f) i) (λ r s. cleared (w / 2) both r s i) room rest)
+        ∙ (λ i. take_target (sym (add-zero f) i) (λ r s. cleared (w / 2) both r s i) room rest)
 
 -- no digit stands
-pub word_none : (k f room : ℕ) (rest : List ℕ) → takeWord k f 0 room rest ≡ some (record { value = []; room = room; rest = rest })
-unfolding takeWord
+pub word_none : (k f room : ℕ) (rest : List ℕ) → take_word k f 0 room rest ≡ some (record { value = []; room = room; rest = rest })
+unfolding take_word
 word_none zero f room rest = refl
 word_none (suc k) f room rest = word_none k (suc f) room rest

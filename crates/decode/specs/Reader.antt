@@ -8,20 +8,20 @@ use Rattle.decode.specs.declared.reader.MapStep.TheVariants.{Map, Cut}
 use Rattle.decode.specs.declared.rows.LabelStep.{LabelStep}
 use Rattle.decode.specs.declared.rows.LabelStep.TheVariants as label
 use Rattle.layout.specs.Builder.{unstated}
-use Rattle.decode.specs.Decode.{labelLength, label_of}
+use Rattle.decode.specs.Decode.{label_length, label_of}
 use Rattle.decode.specs.Word.{word_of}
 
 -- the byte at the position, or the end
-abbrev pub byteStep : List ℕ → ℕ → Step
-byteStep bytes next = cond (ltb next (length bytes)) (Byte (get_or bytes next 0) (next + 1)) End
+abbrev pub byte_step : List ℕ → ℕ → Step
+byte_step bytes next = cond (ltb next (length bytes)) (Byte (get_or bytes next 0) (next + 1)) End
 
 -- "8 bytes of feature map", or the end
 abbrev pub map_step : List ℕ → ℕ → MapStep
 map_step bytes next = cond (leb 8 (length bytes - next)) (Map (word_of 8 (drop next bytes)) (next + 8)) Cut
 
 -- the label at the position, or the end
-abbrev pub labelStep : List ℕ → ℕ → LabelStep
-labelStep bytes next =
-    cond (leb (labelLength (drop next bytes)) (length bytes - next))
-    (label.Found (unstated (label_of (drop next bytes))) (next + labelLength (drop next bytes)))
+abbrev pub label_step : List ℕ → ℕ → LabelStep
+label_step bytes next =
+    cond (leb (label_length (drop next bytes)) (length bytes - next))
+    (label.Found (unstated (label_of (drop next bytes))) (next + label_length (drop next bytes)))
     label.Cut

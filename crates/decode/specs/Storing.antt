@@ -3,12 +3,12 @@ use Rattle.std.specs.Prelude.{◌≡◌, List, ℕ, ◌+◌, ◌-◌, ◌≤◌,
 use Rattle.std.proofs.Math.Option.{Option, none, some}
 use Rattle.graphs.specs.Rows.{Row}
 use Rattle.lattice.specs.Label.{Label}
-use Rattle.layout.specs.Layout.{header, longest, labelFrom, linksBetween}
+use Rattle.layout.specs.Layout.{header, longest, label_from, links_between}
 use Rattle.layout.specs.Builder.{Same}
 use Rattle.decode.specs.declared.rows.RowEnd.{RowEnd}
 use Rattle.decode.specs.declared.rows.RowEnd.TheVariants.{At, Short}
 use Rattle.decode.specs.Decode.{Taken, take_row}
-use Rattle.decode.specs.Word.{takeWord}
+use Rattle.decode.specs.Word.{take_word}
 
 -- The byte `start` is one of the bytes or the end, and links from place `at` on have room below place `limit`. There are words up to
 -- `limit`, or one for each byte that is left.
@@ -25,8 +25,8 @@ pub record Stored {X : Type 0} (value : X) (read : Option (Taken X)) (bytes : Li
   pub inside : next ≤ length bytes
 
 -- the row that stands from place `at` up to place `end`
-abbrev pub rowBetween : List ℕ → ℕ → ℕ → Row Label
-rowBetween ws at end = (labelFrom ws at, linksBetween ws (at + header) end)
+abbrev pub row_between : List ℕ → ℕ → ℕ → Row Label
+row_between ws at end = (label_from ws at, links_between ws (at + header) end)
 
 -- Something is read from the byte `start` on and stands in the words from place `at` on, or it cannot be read. What is read takes at
 -- least `least` words, and no more words than bytes. The words before `at` stay as they are.
@@ -41,9 +41,9 @@ pub record Took {X : Type 0} (found : List ℕ → ℕ → ℕ → X) (least : �
 -- The links that a map states are read from the byte `start` on.
 abbrev pub TookLinks : ℕ → List ℕ → ℕ → ℕ → ℕ → List ℕ → RowEnd → List ℕ → Type 0
 TookLinks map bytes start at limit ws answer ws' =
-    Took linksBetween 0 (takeWord 64 0 map (limit - at) (drop start bytes)) bytes start at limit ws answer ws'
+    Took links_between 0 (take_word 64 0 map (limit - at) (drop start bytes)) bytes start at limit ws answer ws'
 
 -- The row that begins at the byte `start` is read.
 abbrev pub TookRow : List ℕ → ℕ → ℕ → ℕ → List ℕ → RowEnd → List ℕ → Type 0
 TookRow bytes start at limit ws answer ws' =
-    Took rowBetween header (take_row (limit - (at + header)) (drop start bytes)) bytes start at limit ws answer ws'
+    Took row_between header (take_row (limit - (at + header)) (drop start bytes)) bytes start at limit ws answer ws'

@@ -4,7 +4,7 @@
 
 ghost use Rattle.std.specs.Prelude.{◌+◌, ◌≤◌, drop, length, ◌≡◌};
 ghost use Rattle.decode.specs.Word.{word_of};
-ghost use Rattle.decode.specs.Reader.{byteStep, map_step};
+ghost use Rattle.decode.specs.Reader.{byte_step, map_step};
 
 // A record's bytes and the position of the next byte.
 #[derive(Drop)]
@@ -50,7 +50,7 @@ fn map_at(bytes: &[u8], at: usize) -> u64
 
 // The byte at a place, or the end.
 fn byte_at(bytes: &[u8], at: usize) -> Step
-    ensures { result ≡ byteStep bytes.now at }
+    ensures { result ≡ byte_step bytes.now at }
 {
     if bytes.len() <= at {
         return Step::End;
@@ -73,7 +73,7 @@ fn whole_map_at(bytes: &[u8], at: usize) -> MapStep
 
 // Takes the next byte.
 fn byte<'a>(r: Reader<'a>) -> Step
-    ensures { result ≡ byteStep r.entry.bytes.now r.entry.next }
+    ensures { result ≡ byte_step r.entry.bytes.now r.entry.next }
 {
     byte_at(r.bytes, r.next)
 }
@@ -87,7 +87,7 @@ fn map<'a>(r: Reader<'a>) -> MapStep
 
 // The byte that the reader takes at a position.
 pub fn byte_from(bytes: &[u8], at: usize) -> Step
-    ensures { result ≡ byteStep bytes.now at }
+    ensures { result ≡ byte_step bytes.now at }
 {
     byte(Reader { bytes, next: at })
 }

@@ -3,7 +3,7 @@
 ghost use Rattle.std.specs.Prelude.{◌≡◌, ◌+◌};
 ghost use Rattle.layout.specs.Layout.{header};
 ghost use Rattle.decode.specs.Answers.{Parses, Roomy};
-ghost use Rattle.decode.specs.Reader.{labelStep};
+ghost use Rattle.decode.specs.Reader.{label_step};
 ghost use Rattle.decode.specs.Storing.{RowsFit, TookLinks, TookRow};
 
 use crate::reader::{MapStep, Step, byte_from, map_from};
@@ -31,7 +31,7 @@ pub enum LabelStep {
 
 // Takes the label at a byte: the type, and where its bit 7 is set the lowest and the highest level.
 fn take_label(bytes: &[u8], start: usize) -> LabelStep
-    ensures { result ≡ labelStep bytes.now start }
+    ensures { result ≡ label_step bytes.now start }
 {
     let step = byte_from(bytes, start);
     let Step::Byte(kind, behind) = step else {

@@ -10,9 +10,9 @@ use Rattle.graphs.specs.Rows.{Row}
 use Rattle.lattice.specs.Label.{Label}
 use Rattle.acceptance.specs.declared.Opened.TheVariants.{Accepted}
 use Rattle.acceptance.specs.Reply.{opened}
-use Rattle.lattice.specs.Labels.{tableLabels, OfAnySize}
+use Rattle.lattice.specs.Labels.{table_labels, OfAnySize}
 use Rattle.lattice.proofs.AnySize.{below-broader, greatest-monotone, least-monotone}
-use Rattle.record.specs.Read.{reading, accepted, graphOfRows}
+use Rattle.record.specs.Read.{reading, accepted, graph_of_rows}
 use Rattle.record.proofs.Theorems.{accepted-of-any-size}
 use Rattle.replies.specs.declared.Reply.TheVariants.{Length, Cycle, Clash}
 use Rattle.calls.specs.Calls.{generalizing, unifying}
@@ -26,7 +26,7 @@ pub record RecordBelow (n : ℕ) (t x y : List ℕ) : Type 0 where
   pub lower : List (Row Label)
   pub upper : List (Row Label)
   pub given : Given n t x y lower upper
-  pub below : Below (tableLabels n t) (graphOfRows lower) (graphOfRows upper)
+  pub below : Below (table_labels n t) (graph_of_rows lower) (graph_of_rows upper)
 
 module _ (n : ℕ) (t x y : List ℕ) where
   pub answer-below : AnswersBelow n t x y → RecordBelow n t x y
@@ -35,7 +35,7 @@ module _ (n : ℕ) (t x y : List ℕ) where
       record { lower = s; upper = g; given = given; below = (order-exact n t x y s g given).0.0 q }
 
   pub rows-below : (s g : List (Row Label)) → opened n t ≡ Accepted → reading n x ≡ accepted s → reading n y ≡ accepted g →
-      Below (tableLabels n t) (graphOfRows s) (graphOfRows g) → RecordBelow n t x y
+      Below (table_labels n t) (graph_of_rows s) (graph_of_rows g) → RecordBelow n t x y
   rows-below s g opens i j below =
       record { lower = s; upper = g; given = record { opens = opens; first = i; second = j }; below = below }
 
@@ -45,7 +45,7 @@ module _ (n : ℕ) (t x y : List ℕ) where
 
     -- x is below y, whichever rows they are read as.
     pub below-paths : (s g : List (Row Label)) → reading n x ≡ accepted s → reading n y ≡ accepted g →
-        Below (tableLabels n t) (graphOfRows s) (graphOfRows g)
+        Below (table_labels n t) (graph_of_rows s) (graph_of_rows g)
     below-paths s g i j =
         (order-exact n t x y s g (record { opens = r.given.opens; first = i; second = j })).0.0 below-answer
 
@@ -56,16 +56,16 @@ module _ (n : ℕ) (t a b c d : List ℕ) (first : RecordBelow n t a b) (second 
   broad : Given n t b d first.upper second.upper
   broad = record { opens = first.given.opens; first = first.given.second; second = second.given.second }
 
-  a-size : OfAnySize n t (graphOfRows first.lower)
+  a-size : OfAnySize n t (graph_of_rows first.lower)
   a-size = accepted-of-any-size n a first.lower first.given.first t
 
-  b-size : OfAnySize n t (graphOfRows first.upper)
+  b-size : OfAnySize n t (graph_of_rows first.upper)
   b-size = accepted-of-any-size n b first.upper first.given.second t
 
-  c-size : OfAnySize n t (graphOfRows second.lower)
+  c-size : OfAnySize n t (graph_of_rows second.lower)
   c-size = accepted-of-any-size n c second.lower second.given.first t
 
-  d-size : OfAnySize n t (graphOfRows second.upper)
+  d-size : OfAnySize n t (graph_of_rows second.upper)
   d-size = accepted-of-any-size n d second.upper second.given.second t
 
   module _ (out out' : List ℕ) where
@@ -75,8 +75,8 @@ module _ (n : ℕ) (t a b c d : List ℕ) (first : RecordBelow n t a b) (second 
     combines combined refused =
         let (u, _, best) = exists n t a c first.lower second.lower narrow out combined in
         let (left, right) =
-        below-broader n t (accepts n t a c first.lower second.lower narrow) (graphOfRows first.lower) (graphOfRows first.upper)
-        (graphOfRows second.lower) (graphOfRows second.upper) a-size b-size c-size d-size first.below second.below u
+        below-broader n t (accepts n t a c first.lower second.lower narrow) (graph_of_rows first.lower) (graph_of_rows first.upper)
+        (graph_of_rows second.lower) (graph_of_rows second.upper) a-size b-size c-size d-size first.below second.below u
         best.of-any-size best.left best.right in
         (none-exact n t b d first.upper second.upper broad out').0 refused (ℕ ⊎ ℕ) u best.of-any-size left right
 
@@ -89,9 +89,9 @@ module _ (n : ℕ) (t a b c d : List ℕ) (first : RecordBelow n t a b) (second 
           lower = u.form;
           upper = w.form;
           given = record { opens = narrow.opens; first = u.reads; second = w.reads };
-          below = greatest-monotone n t (accepts n t a c first.lower second.lower narrow) (graphOfRows first.lower)
-              (graphOfRows first.upper) (graphOfRows second.lower) (graphOfRows second.upper) a-size b-size c-size d-size
-              first.below second.below (graphOfRows u.form) (graphOfRows w.form) u.greatest w.greatest;
+          below = greatest-monotone n t (accepts n t a c first.lower second.lower narrow) (graph_of_rows first.lower)
+              (graph_of_rows first.upper) (graph_of_rows second.lower) (graph_of_rows second.upper) a-size b-size c-size d-size
+              first.below second.below (graph_of_rows u.form) (graph_of_rows w.form) u.greatest w.greatest;
         }
 
     pub common-part-below : (l l' : ℕ) → (generalizing n t a c out).reply ≡ Length l → (generalizing n t b d out').reply ≡ Length l' →
@@ -103,7 +103,7 @@ module _ (n : ℕ) (t a b c d : List ℕ) (first : RecordBelow n t a b) (second 
           lower = u.form;
           upper = w.form;
           given = record { opens = narrow.opens; first = u.reads; second = w.reads };
-          below = least-monotone n t (accepts n t a c first.lower second.lower narrow) (graphOfRows first.lower)
-              (graphOfRows first.upper) (graphOfRows second.lower) (graphOfRows second.upper) a-size b-size c-size d-size
-              first.below second.below (graphOfRows u.form) (graphOfRows w.form) u.least w.least;
+          below = least-monotone n t (accepts n t a c first.lower second.lower narrow) (graph_of_rows first.lower)
+              (graph_of_rows first.upper) (graph_of_rows second.lower) (graph_of_rows second.upper) a-size b-size c-size d-size
+              first.below second.below (graph_of_rows u.form) (graph_of_rows w.form) u.least w.least;
         }

@@ -14,7 +14,7 @@ use Rattle.graphs.specs.Rows.{Row, from}
 use Rattle.graphs.specs.LeastPath.{Earlier, LeastPath}
 use Rattle.graphs.specs.Generalize.{IsGeneralization}
 use Rattle.graphs.specs.Unify as unify
-use Rattle.graphs.specs.Difference.{Link, byNumber, group_of}
+use Rattle.graphs.specs.Difference.{Link, by_number, group_of}
 use Rattle.graphs.specs.Relations.{Into, LiesOver, Grouped, KeptLink}
 use Rattle.graphs.specs.OfRows.{same_pair}
 use Rattle.graphs.proofs.Difference.ByNumber.{by-number-order}
@@ -22,11 +22,11 @@ use Rattle.lattice.specs.Label.{Label}
 use Rattle.acceptance.specs.declared.Opened.TheVariants.{Accepted}
 use Rattle.lattice.specs.Table.{admits}
 use Rattle.acceptance.specs.Reply.{opened}
-use Rattle.lattice.specs.Labels.{tableLabels, OfAnySize, LeastOfAnySize, GreatestOfAnySize, IsCombination, LabelClash, WantedAt}
+use Rattle.lattice.specs.Labels.{table_labels, OfAnySize, LeastOfAnySize, GreatestOfAnySize, IsCombination, LabelClash, WantedAt}
 use Rattle.acceptance.proofs.Acceptance.{opened-accepted}
 use Rattle.lattice.proofs.AnySize.{combination-greatest}
 use Rattle.encode.specs.Encode.{fitted}
-use Rattle.record.specs.Read.{reading, accepted, graphOfRows}
+use Rattle.record.specs.Read.{reading, accepted, graph_of_rows}
 use Rattle.replies.specs.declared.Reply.TheVariants.{Length, Same, Cycle, Clash, TooLarge, NotBelow, NoWantedType}
 use Rattle.replies.specs.Reply.{Result, result_of}
 use Rattle.difference.specs.Difference.{over}
@@ -41,7 +41,7 @@ use Rattle.demands.specs.Demand.{
   WrittenRecord,
   Leaves,
   Large,
-  recordOf,
+  record_of,
   writing,
   RecordOf,
   Rewritten,
@@ -49,7 +49,7 @@ use Rattle.demands.specs.Demand.{
   CommonPart,
   NoneBelow,
   Combination,
-  asWritten,
+  as_written,
   remainder,
   WantedNotTop,
   Restores,
@@ -117,21 +117,21 @@ module _ (n : ℕ) (t out : List ℕ) where
 -- where they mean the same.
 module _ (n : ℕ) (t : List ℕ) (opens : opened n t ≡ Accepted) {C : Type 0} (same : C → C → Bool) (tells : TellsApart same) (k : Graph Label C)
     (size : OfAnySize n t k) where
-  pub record-none : (recordOf same k ≡ none) ↔ Large k
+  pub record-none : (record_of same k ≡ none) ↔ Large k
   record-none = Recorded.record-none n t opens same tells k size
 
-  module _ (bytes : List ℕ) (is : recordOf same k ≡ some bytes) where
+  module _ (bytes : List ℕ) (is : record_of same k ≡ some bytes) where
     pub record-means : RecordOf n t k bytes
     record-means = Recorded.record-means n t opens same tells k size bytes is
 
     pub record-of-meaning : {D : Type 0} (other : D → D → Bool) → TellsApart other → (m : Graph Label D) → OfAnySize n t m →
-        SameMeaning (tableLabels n t) k m ↔ (recordOf other m ≡ some bytes)
+        SameMeaning (table_labels n t) k m ↔ (record_of other m ≡ some bytes)
     record-of-meaning = Recorded.record-exact n t opens same tells k size bytes is
 
 -- Rewriting an accepted record writes the record of its graph.
 module _ (n : ℕ) (t a : List ℕ) (rows : List (Row Label)) (opens : opened n t ≡ Accepted) (reads : reading n a ≡ accepted rows) (out : List ℕ) where
-  pub rewriting-written : rewriting n t a out ≡ writing (recordOf eqb (graphOfRows rows)) out
-  rewriting-written = rewriting-is n t a rows opens reads out ∙ result-record eqb (graphOfRows rows) out
+  pub rewriting-written : rewriting n t a out ≡ writing (record_of eqb (graph_of_rows rows)) out
+  rewriting-written = rewriting-is n t a rows opens reads out ∙ result-record eqb (graph_of_rows rows) out
 
   -- What is written is accepted, is its own written form and means the same as the record a.
   pub rewriting-means : (l : ℕ) → (rewriting n t a out).reply ≡ Length l → Rewritten n t a rows (take l (rewriting n t a out).output)
@@ -140,17 +140,17 @@ module _ (n : ℕ) (t a : List ℕ) (rows : List (Row Label)) (opens : opened n 
 module _ (n : ℕ) (t a b : List ℕ) (s g : List (Row Label)) (given : Given n t a b s g) where
   -- Two accepted records mean the same exactly when rewriting gives equal bytes.
   pub meaning-bytes : (out : List ℕ) (l m : ℕ) → (rewriting n t a out).reply ≡ Length l → (rewriting n t b out).reply ≡ Length m →
-      SameMeaning (tableLabels n t) (graphOfRows s) (graphOfRows g) ↔
+      SameMeaning (table_labels n t) (graph_of_rows s) (graph_of_rows g) ↔
       (take l (rewriting n t a out).output ≡ take m (rewriting n t b out).output)
   meaning-bytes = Meaning.bytes-exact n t a b s g given
 
   -- Two accepted records mean the same exactly when rewriting gives the same reply and output, whatever output is lent.
-  pub meaning-rewriting : SameMeaning (tableLabels n t) (graphOfRows s) (graphOfRows g) ↔
+  pub meaning-rewriting : SameMeaning (table_labels n t) (graph_of_rows s) (graph_of_rows g) ↔
       ((out : List ℕ) → rewriting n t a out ≡ rewriting n t b out)
   meaning-rewriting = Meaning.meaning-exact n t a b s g given
 
   -- Two accepted records mean the same exactly when the order answers same.
-  pub meaning-order : (ordering n t a b ≡ Same) ↔ SameMeaning (tableLabels n t) (graphOfRows s) (graphOfRows g)
+  pub meaning-order : (ordering n t a b ≡ Same) ↔ SameMeaning (table_labels n t) (graph_of_rows s) (graph_of_rows g)
   meaning-order = Meaning.order_same n t a b s g given
 
 -- One form: every record that a call wrote is a `WrittenRecord`, as its `Leaves` says.
@@ -162,26 +162,26 @@ module _ (n : ℕ) (t a : List ℕ) (one : WrittenRecord n a) where
 
   -- Two written records mean the same exactly when they are equal bytes.
   pub written-one-form : (b : List ℕ) (other : WrittenRecord n b) →
-      SameMeaning (tableLabels n t) (graphOfRows one.form) (graphOfRows other.form) ↔ (a ≡ b)
+      SameMeaning (table_labels n t) (graph_of_rows one.form) (graph_of_rows other.form) ↔ (a ≡ b)
   written-one-form = Meaning.one_form n t a one
 
 -- "Written records number the nodes by first visit, from the root, lowest feature first, following links downward .. All that hangs below a link
 -- is numbered before the node's next link is followed": among the paths that lead to a node there is a least one. A path comes before the paths
 -- that extend it; where two paths part, the one with the lower feature comes first.
 module _ (n : ℕ) (a : List ℕ) (one : WrittenRecord n a) where
-  pub least-path-exists : (v : ℕ) → v < length one.form → (p : List ℕ) × LeastPath (graphOfRows one.form) p v
+  pub least-path-exists : (v : ℕ) → v < length one.form → (p : List ℕ) × LeastPath (graph_of_rows one.form) p v
   least-path-exists = Numbering.least-path-exists n a one
 
   -- The nodes' numbers ascend with their least paths.
-  pub numbered-by-least-path : (v w : ℕ) (p q : List ℕ) → LeastPath (graphOfRows one.form) p v → LeastPath (graphOfRows one.form) q w →
+  pub numbered-by-least-path : (v w : ℕ) (p q : List ℕ) → LeastPath (graph_of_rows one.form) p v → LeastPath (graph_of_rows one.form) q w →
       (v < w) ↔ Earlier p q
   numbered-by-least-path = Numbering.numbered-by-least-path n a one
 
 -- Demand 3, the order: it answers same or under exactly where the first graph is below the second, and above or neither exactly where it is not.
 
 module _ (n : ℕ) (t a b : List ℕ) (s g : List (Row Label)) (given : Given n t a b s g) where
-  pub order-exact : (AnswersBelow n t a b ↔ Below (tableLabels n t) (graphOfRows s) (graphOfRows g)) ×
-      (AnswersNotBelow n t a b ↔ (Below (tableLabels n t) (graphOfRows s) (graphOfRows g) → ⊥))
+  pub order-exact : (AnswersBelow n t a b ↔ Below (table_labels n t) (graph_of_rows s) (graph_of_rows g)) ×
+      (AnswersNotBelow n t a b ↔ (Below (table_labels n t) (graph_of_rows s) (graph_of_rows g) → ⊥))
   order-exact = Order.order-exact n t a b s g given
 
 -- Demand 3, the common part.
@@ -189,16 +189,16 @@ module _ (n : ℕ) (t a b : List ℕ) (s g : List (Row Label)) (given : Given n 
 module _ (n : ℕ) (t a b : List ℕ) (g h : List (Row Label)) (given : Given n t a b g h) where
   -- The common part, also where it is too large to be written, has "the paths in both, each with the join of its two types, two sharing exactly
   -- when they share in both".
-  pub common-part-paths : IsGeneralization (tableLabels n t) (graphOfRows g) (graphOfRows h) (common n t g h)
+  pub common-part-paths : IsGeneralization (table_labels n t) (graph_of_rows g) (graph_of_rows h) (common n t g h)
   common-part-paths = Common.common-part-paths n t a b g h given
 
   -- The common part is the least graph of any size above both, so there always is such a graph.
-  pub common-part-exists : LeastOfAnySize n t (graphOfRows g) (graphOfRows h) (common n t g h)
+  pub common-part-exists : LeastOfAnySize n t (graph_of_rows g) (graph_of_rows h) (common n t g h)
   common-part-exists = Common.common-part-exists n t a b g h given
 
   module _ (out : List ℕ) where
     -- The call writes the common part.
-    pub common-part-written : generalizing n t a b out ≡ writing (recordOf same_pair (common n t g h)) out
+    pub common-part-written : generalizing n t a b out ≡ writing (record_of same_pair (common n t g h)) out
     common-part-written = Common.common-part-result n t a b g h given out ∙ result-record same_pair (common n t g h) out
 
     -- What is written is the common part over paths, is the least graph of any size above both, and the order agrees.
@@ -216,12 +216,12 @@ combination-over-paths n t opens g h u a b =
 
 module _ (n : ℕ) (t a b : List ℕ) (g h : List (Row Label)) (given : Given n t a b g h) (out : List ℕ) where
   -- 9 is answered exactly where a class reaches itself.
-  pub combination-cycle : ((unifying n t a b out).reply ≡ Cycle) ↔ unify.Cycle (tableLabels n t) (graphOfRows g) (graphOfRows h)
+  pub combination-cycle : ((unifying n t a b out).reply ≡ Cycle) ↔ unify.Cycle (table_labels n t) (graph_of_rows g) (graph_of_rows h)
   combination-cycle = Combined.cycle-exact n t a b g h given out
 
   -- 10 is answered exactly where no class reaches itself and the meet of some class is a contradiction: type 0, or an empty range.
   pub combination-clash : ((unifying n t a b out).reply ≡ Clash) ↔
-      ((unify.Cycle (tableLabels n t) (graphOfRows g) (graphOfRows h) → ⊥) × LabelClash n t (graphOfRows g) (graphOfRows h))
+      ((unify.Cycle (table_labels n t) (graph_of_rows g) (graph_of_rows h) → ⊥) × LabelClash n t (graph_of_rows g) (graph_of_rows h))
   combination-clash = Combined.clash-exact n t a b g h given out
 
   -- 9 or 10 is answered exactly where no graph of any size lies below both.
@@ -231,12 +231,12 @@ module _ (n : ℕ) (t a b : List ℕ) (g h : List (Row Label)) (given : Given n 
   -- Where neither 9 nor 10 is answered, the classes of paths give a graph, the greatest of any size below both, also where it is too large to be
   -- written.
   pub combination-exists : (((unifying n t a b out).reply ≡ Cycle) ⊎ ((unifying n t a b out).reply ≡ Clash) → ⊥) →
-      (u : Graph Label (ℕ ⊎ ℕ)) × IsCombination n t (graphOfRows g) (graphOfRows h) u × GreatestOfAnySize n t (graphOfRows g) (graphOfRows h) u
+      (u : Graph Label (ℕ ⊎ ℕ)) × IsCombination n t (graph_of_rows g) (graph_of_rows h) u × GreatestOfAnySize n t (graph_of_rows g) (graph_of_rows h) u
   combination-exists = Combined.exists n t a b g h given out
 
   -- Every graph that is the greatest of any size below both is what the call writes.
   pub combination-written : {C : Type 0} (same : C → C → Bool) → TellsApart same → (u : Graph Label C) →
-      GreatestOfAnySize n t (graphOfRows g) (graphOfRows h) u → unifying n t a b out ≡ writing (recordOf same u) out
+      GreatestOfAnySize n t (graph_of_rows g) (graph_of_rows h) u → unifying n t a b out ≡ writing (record_of same u) out
   combination-written same tells u best = Combined.greatest-result n t a b g h given out same tells u best ∙ result-record same u out
 
   -- What is written is the greatest graph of any size below both, and the order agrees.
@@ -254,47 +254,47 @@ difference-demanded = Whole.difference-whole
 
 module _ (n : ℕ) (t a b : List ℕ) (g s : List (Row Label)) (given : Given n t a b g s) where
   -- Where s is below g and no node of s is without a wanted type, the difference restores s with g and nothing more general does.
-  pub difference-restores : Below (tableLabels n t) (graphOfRows s) (graphOfRows g) →
-      (SomeUnwanted n t (graphOfRows s) (graphOfRows g) → ⊥) → Restores n t (remainder byNumber n t g s) (graphOfRows g) (graphOfRows s)
-  difference-restores below all = Differed.remainder-restores n t a b g s given by-number-order below (Differed.all_wanted n t a b g s given below all)
+  pub difference-restores : Below (table_labels n t) (graph_of_rows s) (graph_of_rows g) →
+      (SomeUnwanted n t (graph_of_rows s) (graph_of_rows g) → ⊥) → Restores n t (remainder by_number n t g s) (graph_of_rows g) (graph_of_rows s)
+  difference-restores below all = Differed.remainder-restores n t a b g s given by-number-order below (Differed.all_wanted_lem n t a b g s given below all)
 
   -- The difference is that of document 01, as the relations state it over the paths and links of the two graphs, with s numbered as written.
   -- `over` gives the node of s that a node of g lies over.
-  module _ (below : Below (tableLabels n t) (graphOfRows s) (graphOfRows g)) where
+  module _ (below : Below (table_labels n t) (graph_of_rows s) (graph_of_rows g)) where
     pub over-exact : (y v : ℕ) →
-        LiesOver (graphOfRows (asWritten s)) (graphOfRows g) y v ↔ (Reached (graphOfRows g) y × (over (asWritten s) g y ≡ v))
+        LiesOver (graph_of_rows (as_written s)) (graph_of_rows g) y v ↔ (Reached (graph_of_rows g) y × (over (as_written s) g y ≡ v))
     over-exact = Related.over-exact n t a b g s given below
 
     -- `group_of` gives the links that are in one group with l.
-    pub group-exact : (v : ℕ) (l m : Link ℕ) → Into (graphOfRows (asWritten s)) v l →
+    pub group-exact : (v : ℕ) (l m : Link ℕ) → Into (graph_of_rows (as_written s)) v l →
         Memᴰ m
-        (group_of eqb eqb (graphOfRows (asWritten s)) (from 0 (length (asWritten s))) (graphOfRows g) (from 0 (length g)) (over (asWritten s) g) v l) ↔
-        Grouped (graphOfRows (asWritten s)) (graphOfRows g) v l m
+        (group_of eqb eqb (graph_of_rows (as_written s)) (from 0 (length (as_written s))) (graph_of_rows g) (from 0 (length g)) (over (as_written s) g) v l) ↔
+        Grouped (graph_of_rows (as_written s)) (graph_of_rows g) v l m
     group-exact = Related.group-exact n t a b g s given below
 
     -- The links of the difference are the kept links, and the label of a node is its wanted label.
-    module _ (all : SomeUnwanted n t (graphOfRows s) (graphOfRows g) → ⊥) where
-      pub keep-exact : (u f v : ℕ) → Reached (graphOfRows (asWritten s)) u → ((remainder byNumber n t g s).link u f ≡ some v) ↔
-          KeptLink (graphOfRows (asWritten s)) (graphOfRows g) byNumber (WantedNotTop n t (graphOfRows (asWritten s)) (graphOfRows g)) u f v
-      keep-exact = Related.keep-exact n t a b g s given below (Differed.all_wanted n t a b g s given below all) by-number-order
+    module _ (all : SomeUnwanted n t (graph_of_rows s) (graph_of_rows g) → ⊥) where
+      pub keep-exact : (u f v : ℕ) → Reached (graph_of_rows (as_written s)) u → ((remainder by_number n t g s).link u f ≡ some v) ↔
+          KeptLink (graph_of_rows (as_written s)) (graph_of_rows g) by_number (WantedNotTop n t (graph_of_rows (as_written s)) (graph_of_rows g)) u f v
+      keep-exact = Related.keep-exact n t a b g s given below (Differed.all_wanted_lem n t a b g s given below all) by-number-order
 
-      pub label-exact : (v : ℕ) → WantedAt n t (graphOfRows (asWritten s)) (graphOfRows g) v ((remainder byNumber n t g s).label v)
-      label-exact = Related.label-exact n t a b g s given below (Differed.all_wanted n t a b g s given below all) by-number-order
+      pub label-exact : (v : ℕ) → WantedAt n t (graph_of_rows (as_written s)) (graph_of_rows g) v ((remainder by_number n t g s).label v)
+      label-exact = Related.label-exact n t a b g s given below (Differed.all_wanted_lem n t a b g s given below all) by-number-order
 
   module _ (out : List ℕ) where
     -- 12 is answered exactly where s is not below g.
-    pub difference-not-below : ((differing n t a b out).reply ≡ NotBelow) ↔ (Below (tableLabels n t) (graphOfRows s) (graphOfRows g) → ⊥)
+    pub difference-not-below : ((differing n t a b out).reply ≡ NotBelow) ↔ (Below (table_labels n t) (graph_of_rows s) (graph_of_rows g) → ⊥)
     difference-not-below = Differed.not-below-exact n t a b g s given by-number-order (Differed.plain-parts n t a b given out)
 
     -- 13 is answered exactly where s is below g and some node of s has no wanted type.
     pub difference-not-wanted : ((differing n t a b out).reply ≡ NoWantedType) ↔
-        (Below (tableLabels n t) (graphOfRows s) (graphOfRows g) × SomeUnwanted n t (graphOfRows s) (graphOfRows g))
+        (Below (table_labels n t) (graph_of_rows s) (graph_of_rows g) × SomeUnwanted n t (graph_of_rows s) (graph_of_rows g))
     difference-not-wanted = Differed.unwanted-reply-exact n t a b g s given by-number-order (Differed.plain-parts n t a b given out)
 
     -- Where s is below g and no node of s is without a wanted type, the call writes the difference.
-    pub difference-written : Below (tableLabels n t) (graphOfRows s) (graphOfRows g) →
-        (SomeUnwanted n t (graphOfRows s) (graphOfRows g) → ⊥) → differing n t a b out ≡ writing (recordOf eqb (remainder byNumber n t g s)) out
-    difference-written below all = Differed.remainder-written n t a b g s given by-number-order (Differed.plain-parts n t a b given out) below (Differed.all_wanted n t a b g s given below all)
+    pub difference-written : Below (table_labels n t) (graph_of_rows s) (graph_of_rows g) →
+        (SomeUnwanted n t (graph_of_rows s) (graph_of_rows g) → ⊥) → differing n t a b out ≡ writing (record_of eqb (remainder by_number n t g s)) out
+    difference-written below all = Differed.remainder-written n t a b g s given by-number-order (Differed.plain-parts n t a b given out) below (Differed.all_wanted_lem n t a b g s given below all)
 
     -- What is written, combined with a, restores b byte for byte; nothing more general does; and the order agrees.
     pub difference : (l : ℕ) → (differing n t a b out).reply ≡ Length l → Difference n t a b g s (take l (differing n t a b out).output)

@@ -8,23 +8,23 @@ use Prim.Native.Nat.{ℕ}
 use lib.ListN.{length}
 use Rattle.graphs.specs.Graph.{Graph, TellsApart}
 use Rattle.graphs.specs.Rows.{Row}
-use Rattle.graphs.specs.Difference.{byNumber, byReading}
+use Rattle.graphs.specs.Difference.{by_number, by_reading}
 use Rattle.graphs.proofs.Difference.ByNumber.{by-number-order}
 use Rattle.graphs.proofs.Difference.ByReading.{by-reading-order}
 use Rattle.lattice.specs.Label.{Label}
 use Rattle.lattice.specs.Labels.{GreatestOfAnySize}
-use Rattle.record.specs.Read.{graphOfRows}
+use Rattle.record.specs.Read.{graph_of_rows}
 use Rattle.replies.specs.declared.Reply.{Reply}
 use Rattle.replies.specs.declared.Reply.TheVariants.{TooLarge}
 use Rattle.replies.specs.Reply.{Result, refusing}
 use Rattle.engine.specs.Rewriting.{rewritten}
 use Rattle.engine.specs.Generalizing.{generalized}
-use Rattle.engine.specs.Unifying.{unifiedRows}
-use Rattle.difference.specs.Difference.{differedRows}
+use Rattle.engine.specs.Unifying.{unified_rows}
+use Rattle.difference.specs.Difference.{differed_rows}
 use Rattle.orders.specs.Ordering.{ordered}
-use Rattle.calls.specs.Calls.{checking, rewriting, ordering, generalizing, unifying, differing, differingBy}
-use Rattle.calls.specs.Appropriate.{rewritingAppropriate, generalizingAppropriate, unifyingAppropriate}
-use Rattle.calls.specs.Explained.{explaining, explainingBy}
+use Rattle.calls.specs.Calls.{checking, rewriting, ordering, generalizing, unifying, differing, differing_by}
+use Rattle.calls.specs.Appropriate.{rewriting_appropriate, generalizing_appropriate, unifying_appropriate}
+use Rattle.calls.specs.Explained.{explaining, explaining_by}
 use Rattle.listing.specs.Call.{stepping}
 use Rattle.engine.specs.Differing.{parting}
 use Rattle.demands.specs.Demand.{Given, Large}
@@ -73,7 +73,7 @@ module _ (n : ℕ) (t : List ℕ) where
     unfolding rewriting
     rewrite-exact bytes r =
         Checks.lone-exact (λ (x : Result). x.reply) (λ r. refusing r out) (λ r. refl) n t bytes (λ x. rewritten x out) (λ fault. refl)
-        (λ rows. RoomDue n t (graphOfRows rows) (length out)) (λ rows opens reads. After.rewritten-exact n t bytes rows opens reads out) r
+        (λ rows. RoomDue n t (graph_of_rows rows) (length out)) (λ rows opens reads. After.rewritten-exact n t bytes rows opens reads out) r
 
     module _ (a b : List ℕ) (r : Reply) where
       -- Common part: 1 to 3, first and second 4 to 7, 11, 8.
@@ -87,49 +87,49 @@ module _ (n : ℕ) (t : List ℕ) where
       pub unify-exact : ((unifying n t a b out).reply ≡ r) ↔ UnifyDue n t a b (length out) r
       unfolding unifying
       unify-exact =
-          Checks.pair-exact (λ (x : Result). x.reply) (λ r. refusing r out) (λ r. refl) n t a b (unifiedRows n t out)
+          Checks.pair-exact (λ (x : Result). x.reply) (λ r. refusing r out) (λ r. refl) n t a b (unified_rows n t out)
           (CombineDue n t (length out)) (λ g h given. After.combine-exact n t a b g h given out) r
 
       -- Difference: 1 to 3, first and second 4 to 7, 12, 13, 8.
       pub difference-exact : ((differing n t a b out).reply ≡ r) ↔ DifferenceDue n t a b (length out) r
       unfolding differing
       difference-exact =
-          Checks.pair-exact (λ (x : Result). x.reply) (λ r. refusing r out) (λ r. refl) n t a b (differedRows byNumber n t out)
-          (DifferDue n t byNumber (length out)) (λ g s given. After.differ-exact n t a b by-number-order g s given out) r
+          Checks.pair-exact (λ (x : Result). x.reply) (λ r. refusing r out) (λ r. refl) n t a b (differed_rows by_number n t out)
+          (DifferDue n t by_number (length out)) (λ g s given. After.differ-exact n t a b by-number-order g s given out) r
 
 -- With a list of types for features (Paper 9): 17 comes after the table, and 18 straight after that graph's 7.
 module _ (n : ℕ) (t list out : List ℕ) where
   pub rewrite-listed-exact : (bytes : List ℕ) (r : Reply) →
-      ((rewritingAppropriate n t list bytes out).reply ≡ r) ↔ RewriteListedDue n t list bytes (length out) r
-  unfolding rewritingAppropriate
+      ((rewriting_appropriate n t list bytes out).reply ≡ r) ↔ RewriteListedDue n t list bytes (length out) r
+  unfolding rewriting_appropriate
   rewrite-listed-exact bytes =
-      Checks.lone-listed-exact n t list out bytes (λ x. rewritten x out) (λ fault. refl) (λ rows. RoomDue n t (graphOfRows rows) (length out))
+      Checks.lone-listed-exact n t list out bytes (λ x. rewritten x out) (λ fault. refl) (λ rows. RoomDue n t (graph_of_rows rows) (length out))
       (λ rows opens reads. After.rewritten-exact n t bytes rows opens reads out)
 
   module _ (a b : List ℕ) where
     pub generalize-listed-exact : (r : Reply) →
-        ((generalizingAppropriate n t list a b out).reply ≡ r) ↔ GeneralizeListedDue n t list a b (length out) r
-    unfolding generalizingAppropriate
+        ((generalizing_appropriate n t list a b out).reply ≡ r) ↔ GeneralizeListedDue n t list a b (length out) r
+    unfolding generalizing_appropriate
     generalize-listed-exact =
         Checks.pair-listed-exact n t list out a b (generalized n t out) (CommonDue n t (length out))
         (λ g h given. After.common-exact n t a b g h given out)
 
-    pub unify-listed-exact : (r : Reply) → ((unifyingAppropriate n t list a b out).reply ≡ r) ↔ UnifyListedDue n t list a b (length out) r
-    unfolding unifyingAppropriate
+    pub unify-listed-exact : (r : Reply) → ((unifying_appropriate n t list a b out).reply ≡ r) ↔ UnifyListedDue n t list a b (length out) r
+    unfolding unifying_appropriate
     unify-listed-exact =
-        Checks.pair-listed-exact n t list out a b (unifiedRows n t out) (CombineDue n t (length out))
+        Checks.pair-listed-exact n t list out a b (unified_rows n t out) (CombineDue n t (length out))
         (λ g h given. After.combine-exact n t a b g h given out)
 
 -- With a reading order (Paper 10): 19 comes after the table.
 module _ (n : ℕ) (t list a b out : List ℕ) where
-  pub difference-by-exact : (r : Reply) → ((differingBy n t list a b out).reply ≡ r) ↔ DifferenceByDue n t list a b (length out) r
-  unfolding differingBy
+  pub difference-by-exact : (r : Reply) → ((differing_by n t list a b out).reply ≡ r) ↔ DifferenceByDue n t list a b (length out) r
+  unfolding differing_by
   difference-by-exact =
-      Checks.by-list-exact (λ (x : Result). x.reply) (λ r. refusing r out) (λ r. refl) n t list (parting (byReading list) n t a b out)
-      (PairDue n t a b (DifferDue n t (byReading list) (length out)))
+      Checks.by-list-exact (λ (x : Result). x.reply) (λ r. refusing r out) (λ r. refl) n t list (parting (by_reading list) n t a b out)
+      (PairDue n t a b (DifferDue n t (by_reading list) (length out)))
       (λ opens once.
-      Checks.over-table-exact (λ (x : Result). x.reply) (λ r. refusing r out) (λ r. refl) n t a b (differedRows (byReading list) n t out)
-      (DifferDue n t (byReading list) (length out)) (λ g s given. After.differ-exact n t a b (by-reading-order list) g s given out) opens)
+      Checks.over-table-exact (λ (x : Result). x.reply) (λ r. refusing r out) (λ r. refl) n t a b (differed_rows (by_reading list) n t out)
+      (DifferDue n t (by_reading list) (length out)) (λ g s given. After.differ-exact n t a b (by-reading-order list) g s given out) opens)
 
 -- With reasons (Paper 13): 22 comes after 8. `old` is the second output as it is lent.
 module _ (n : ℕ) (t a b out old : List ℕ) where
@@ -139,8 +139,8 @@ module _ (n : ℕ) (t a b out old : List ℕ) where
 
   -- The same with a reading order.
   pub explained-by-exact : (list : List ℕ) (r : Reply) →
-      ((explainingBy n t list a b out old).reply ≡ r) ↔ ExplainedByDue n t list a b (length out) (length old) r
-  unfolding explainingBy differingBy
+      ((explaining_by n t list a b out old).reply ≡ r) ↔ ExplainedByDue n t list a b (length out) (length old) r
+  unfolding explaining_by differing_by
   explained-by-exact list = Reasons.listed-call-exact n t a b (by-reading-order list) out old list
 
 -- The listing (Paper 14): 23 and 24 come after the table and the record's own 4 to 7.
@@ -155,6 +155,6 @@ combination-large = After.large-exact
 
 -- For every graph that is the greatest of any size below both, 11 is answered exactly where that graph is too large.
 pub combination-large-greatest : (n : ℕ) (t a b : List ℕ) (g h : List (Row Label)) → Given n t a b g h → (out : List ℕ) → {C : Type 0}
-    (same : C → C → Bool) → TellsApart same → (u : Graph Label C) → GreatestOfAnySize n t (graphOfRows g) (graphOfRows h) u →
+    (same : C → C → Bool) → TellsApart same → (u : Graph Label C) → GreatestOfAnySize n t (graph_of_rows g) (graph_of_rows h) u →
     ((unifying n t a b out).reply ≡ TooLarge) ↔ Large u
 combination-large-greatest n t a b g h given out same tells u best = (Combined.greatest-writes n t a b g h given out same tells u best).too_large

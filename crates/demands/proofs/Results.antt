@@ -13,25 +13,25 @@ use lib.ListN.{length, take, drop}
 use lib.Seq.{take-append_seam, drop-append_seam}
 use Rattle.graphs.specs.Graph.{Graph, TellsApart, Reached, SameMeaning}
 use Rattle.graphs.specs.Rows.{Row}
-use Rattle.graphs.specs.Number.{Canonical, canonical, manyNodes, manyLinks, written}
+use Rattle.graphs.specs.Number.{Canonical, canonical, many_nodes, many_links, written}
 use Rattle.graphs.proofs.Form.Large.{canonical-many-nodes, canonical-many-links, canonical-fits}
 use Rattle.lattice.specs.Label.{Label}
 use Rattle.acceptance.specs.declared.Opened.TheVariants.{Accepted}
 use Rattle.lattice.specs.Table as table
 use Rattle.acceptance.specs.Reply.{opened}
 use Rattle.lattice.proofs.Laws.{accepted-size}
-use Rattle.lattice.specs.Labels.{tableLabels, OfAnySize}
+use Rattle.lattice.specs.Labels.{table_labels, OfAnySize}
 use Rattle.encoder.specs.Encode.{encoded}
 use Rattle.encode.specs.declared.Written.TheVariants as outcome
-use Rattle.encode.specs.Encode.{fitted, writtenOut}
-use Rattle.record.specs.Read.{reading, accepted, graphOfRows}
+use Rattle.encode.specs.Encode.{fitted, written_out}
+use Rattle.record.specs.Read.{reading, accepted, graph_of_rows}
 use Rattle.record.proofs.Rewritten.{written-injective}
 use Rattle.record.proofs.Theorems.{written-reads}
 use Rattle.replies.specs.declared.Reply.{Reply}
 use Rattle.replies.specs.declared.Reply.TheVariants.{Length, NoRoom, TooLarge}
 use Rattle.replies.specs.Reply.{Result, refusing, result_of}
 use Rattle.calls.specs.Calls.{rewriting}
-use Rattle.demands.specs.Demand.{Large, formBytes, recordOf, writing}
+use Rattle.demands.specs.Demand.{Large, form_bytes, record_of, writing}
 
 -- What a call leaves beside a length: the first bytes of the output are the record of the graph, the other bytes are unchanged, and reading the
 -- record gives a graph of the same meaning.
@@ -42,7 +42,7 @@ pub record Wrote (n : ℕ) (t : List ℕ) {C : Type 0} (same : C → C → Bool)
   pub bytes : take l output ≡ encoded form
   pub others : drop l output ≡ drop l out
   pub reads : reading n (take l output) ≡ accepted form
-  pub means : SameMeaning (tableLabels n t) k (graphOfRows form)
+  pub means : SameMeaning (table_labels n t) k (graph_of_rows form)
 
 -- The graph has a record, and P holds for the record's length.
 abbrev pub RecordLength : {C : Type 0} → (C → C → Bool) → Graph Label C → (ℕ → Type 0) → Type 0
@@ -65,32 +65,32 @@ pub seven-bits : (n : ℕ) (t : List ℕ) → table.accepted n t ≡ true → {C
 seven-bits n t ok k size v r = omega (arith, (size.typed v r).type, (accepted-size n t ok).1)
 
 -- a graph as a call's result
-abbrev pub resultFor : {C : Type 0} → (C → C → Bool) → Graph Label C → List ℕ → Result
-resultFor same k out = result_of (writtenOut (canonical same k) out)
+abbrev pub result_for : {C : Type 0} → (C → C → Bool) → Graph Label C → List ℕ → Result
+result_for same k out = result_of (written_out (canonical same k) out)
 
 -- A graph as a call's result is what writing the graph's record gives.
-pub result-record : {C : Type 0} (same : C → C → Bool) (k : Graph Label C) (out : List ℕ) → resultFor same k out ≡ writing (recordOf same k) out
-unfolding writtenOut
+pub result-record : {C : Type 0} (same : C → C → Bool) (k : Graph Label C) (out : List ℕ) → result_for same k out ≡ writing (record_of same k) out
+unfolding written_out
 result-record same k out = go (canonical same k)
   where
-    go : (c : Canonical Label) → result_of (writtenOut c out) ≡ writing (formBytes c) out
-    go manyNodes = refl
-    go manyLinks = refl
+    go : (c : Canonical Label) → result_of (written_out c out) ≡ writing (form_bytes c) out
+    go many_nodes = refl
+    go many_links = refl
     go (written form) = refl
 
 -- A graph that has a record has a written form, and the record is the bytes of that form.
-pub record-form : {C : Type 0} (same : C → C → Bool) (k : Graph Label C) (bytes : List ℕ) → recordOf same k ≡ some bytes →
+pub record-form : {C : Type 0} (same : C → C → Bool) (k : Graph Label C) (bytes : List ℕ) → record_of same k ≡ some bytes →
     (form : List (Row Label)) × (canonical same k ≡ written form) × (encoded form ≡ bytes)
 record-form same k bytes = go (canonical same k)
   where
-    go : (c : Canonical Label) → formBytes c ≡ some bytes → (form : List (Row Label)) × (c ≡ written form) × (encoded form ≡ bytes)
-    go manyNodes e = let z : ◌≡◌ {A = ℕ} 0 1 = cc in absurd (omega arith)
-    go manyLinks e = let z : ◌≡◌ {A = ℕ} 0 1 = cc in absurd (omega arith)
+    go : (c : Canonical Label) → form_bytes c ≡ some bytes → (form : List (Row Label)) × (c ≡ written form) × (encoded form ≡ bytes)
+    go many_nodes e = let z : ◌≡◌ {A = ℕ} 0 1 = cc in absurd (omega arith)
+    go many_links e = let z : ◌≡◌ {A = ℕ} 0 1 = cc in absurd (omega arith)
     go (written form) e = (form, refl, cc)
 
 -- rewriting an accepted record writes its graph
 pub rewriting-is : (n : ℕ) (t bytes : List ℕ) (rows : List (Row Label)) → opened n t ≡ Accepted → reading n bytes ≡ accepted rows → (out : List ℕ) →
-    rewriting n t bytes out ≡ resultFor eqb (graphOfRows rows) out
+    rewriting n t bytes out ≡ result_for eqb (graph_of_rows rows) out
 unfolding rewriting
 rewriting-is n t bytes rows opens reads out = rw (opens, reads)
 
@@ -110,8 +110,8 @@ module _ {C : Type 0} (same : C → C → Bool) (k : Graph Label C) (out : List 
 
 module _ (n : ℕ) (t : List ℕ) {C : Type 0} (same : C → C → Bool) (tells : TellsApart same) (k : Graph Label C) (size : OfAnySize n t k)
     (types : (v : C) → Reached k v → (k.label v).type < 128) (out : List ℕ) where
-  told : Told same k out (resultFor same k out)
-  unfolding writtenOut fitted
+  told : Told same k out (result_for same k out)
+  unfolding written_out fitted
   told = go (canonical same k) refl
     where
       small : (v w : C) (f : ℕ) → Reached k v → k.link v f ≡ some w → f < 64
@@ -126,9 +126,9 @@ module _ (n : ℕ) (t : List ℕ) {C : Type 0} (same : C → C → Bool) (tells 
       room form e true h = held form e (leb-true (length (encoded form)) (length out) h)
       room form e false h = short form e (leb-false (length (encoded form)) (length out) h)
 
-      go : (c : Canonical Label) → canonical same k ≡ c → Told same k out (result_of (writtenOut c out))
-      go manyNodes e = large (inl ((canonical-many-nodes same tells k small).0 e))
-      go manyLinks e = large (inr ((canonical-many-links same tells k small).0 e).1)
+      go : (c : Canonical Label) → canonical same k ≡ c → Told same k out (result_of (written_out c out))
+      go many_nodes e = large (inl ((canonical-many-nodes same tells k small).0 e))
+      go many_links e = large (inr ((canonical-many-links same tells k small).0 e).1)
       go (written form) e = room form e (leb (length (encoded form)) (length out)) refl
 
   -- A graph with a written form is not too large.
@@ -201,5 +201,5 @@ module _ (n : ℕ) (t : List ℕ) {C : Type 0} (same : C → C → Bool) (tells 
       }
 
   -- Writing a graph of any size gives what `Writes` says.
-  pub result-writes : Writes n t same k out (resultFor same k out)
-  result-writes = told_writes (resultFor same k out) told
+  pub result-writes : Writes n t same k out (result_for same k out)
+  result-writes = told_writes (result_for same k out) told

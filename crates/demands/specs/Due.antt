@@ -5,17 +5,17 @@
 use Rattle.std.specs.Prelude.{◌≡◌, Bool, true, List, [], ◌⊎◌, ℕ, ◌≤◌, ◌<◌, length, get_or}
 use Rattle.graphs.specs.Graph.{Graph, Below}
 use Rattle.graphs.specs.Rows.{Row}
-use Rattle.graphs.specs.Large.{linksIn}
+use Rattle.graphs.specs.Large.{links_in}
 use Rattle.graphs.specs.Unify as unify
-use Rattle.graphs.specs.Difference.{Link, byNumber, byReading}
+use Rattle.graphs.specs.Difference.{Link, by_number, by_reading}
 use Rattle.lattice.specs.Label.{Label}
-use Rattle.lattice.specs.Labels.{tableLabels, OfAnySize, IsCombination, LabelClash}
+use Rattle.lattice.specs.Labels.{table_labels, OfAnySize, IsCombination, LabelClash}
 use Rattle.acceptance.specs.declared.TableFault.{TableFault}
 use Rattle.acceptance.specs.declared.Opened.TheVariants.{Accepted, Refused}
 use Rattle.acceptance.specs.Reply.{opened}
 use Rattle.record.specs.declared.GraphFault.{GraphFault}
 use Rattle.record.specs.declared.GraphFault.TheVariants.{Inappropriate}
-use Rattle.record.specs.Read.{reading, accepted, refused, graphOfRows}
+use Rattle.record.specs.Read.{reading, accepted, refused, graph_of_rows}
 use Rattle.record.specs.Appropriate.{Appropriate}
 use Rattle.link_orders.specs.LinkOrders.{EachOnce}
 use Rattle.listed.specs.Listing.{precedes, Listed, LeastAbove}
@@ -28,7 +28,7 @@ use Rattle.demands.specs.Appropriate.{Breaks, Fits}
 
 -- The graph of the first rows lies below that of the others.
 abbrev pub RowsBelow : ℕ → List ℕ → List (Row Label) → List (Row Label) → Type 0
-RowsBelow n t s g = Below (tableLabels n t) (graphOfRows s) (graphOfRows g)
+RowsBelow n t s g = Below (table_labels n t) (graph_of_rows s) (graph_of_rows g)
 
 -- The replies that two accepted graphs give, by what is asked of them.
 
@@ -58,14 +58,14 @@ module _ (n : ℕ) (t : List ℕ) where
   -- `combination-over-paths` it is the greatest graph of any size below both.
   pub record CombinationOf (g h : List (Row Label)) (u : Graph Label (ℕ ⊎ ℕ)) : Type 0 where
     pub of-any-size : OfAnySize n t u
-    pub classes : IsCombination n t (graphOfRows g) (graphOfRows h) u
+    pub classes : IsCombination n t (graph_of_rows g) (graph_of_rows h) u
 
   -- The replies for the combination of two graphs.
   pub data CombineDue (room : ℕ) (g h : List (Row Label)) : Reply → Type 0 where
     -- 9: "combination: loop".
-    cycle : unify.Cycle (tableLabels n t) (graphOfRows g) (graphOfRows h) → CombineDue room g h Cycle
+    cycle : unify.Cycle (table_labels n t) (graph_of_rows g) (graph_of_rows h) → CombineDue room g h Cycle
     -- 10: "combination: clash, no loop".
-    clash : (unify.Cycle (tableLabels n t) (graphOfRows g) (graphOfRows h) → ⊥) → LabelClash n t (graphOfRows g) (graphOfRows h) →
+    clash : (unify.Cycle (table_labels n t) (graph_of_rows g) (graph_of_rows h) → ⊥) → LabelClash n t (graph_of_rows g) (graph_of_rows h) →
         CombineDue room g h Clash
     -- 11: "result over 255 nodes or 2,048 links".
     too_large : (u : Graph Label (ℕ ⊎ ℕ)) → CombinationOf g h u → Large u → CombineDue room g h TooLarge
@@ -77,9 +77,9 @@ module _ (n : ℕ) (t : List ℕ) where
     -- 12: "difference: s not below g".
     not-below : (RowsBelow n t s g → ⊥) → DifferDue earlier room g s NotBelow
     -- 13: "some node of s has no wanted type", "checked after 12" (Paper 6).
-    not-wanted : RowsBelow n t s g → SomeUnwanted n t (graphOfRows s) (graphOfRows g) → DifferDue earlier room g s NoWantedType
+    not-wanted : RowsBelow n t s g → SomeUnwanted n t (graph_of_rows s) (graph_of_rows g) → DifferDue earlier room g s NoWantedType
     -- 8, or the length
-    written : {r : Reply} → RowsBelow n t s g → (SomeUnwanted n t (graphOfRows s) (graphOfRows g) → ⊥) →
+    written : {r : Reply} → RowsBelow n t s g → (SomeUnwanted n t (graph_of_rows s) (graph_of_rows g) → ⊥) →
         RoomDue (remainder earlier n t g s) room r → DifferDue earlier room g s r
 
   -- The replies for the difference of g and s with its reasons; `beside` is the number of bytes that are lent for the reasons.
@@ -87,17 +87,17 @@ module _ (n : ℕ) (t : List ℕ) where
     -- 12
     not-below : (RowsBelow n t s g → ⊥) → ExplainDue earlier room beside g s NotBelow
     -- 13
-    not-wanted : RowsBelow n t s g → SomeUnwanted n t (graphOfRows s) (graphOfRows g) → ExplainDue earlier room beside g s NoWantedType
+    not-wanted : RowsBelow n t s g → SomeUnwanted n t (graph_of_rows s) (graph_of_rows g) → ExplainDue earlier room beside g s NoWantedType
     -- 8
-    no_room : (new : List ℕ) → RowsBelow n t s g → (SomeUnwanted n t (graphOfRows s) (graphOfRows g) → ⊥) →
+    no_room : (new : List ℕ) → RowsBelow n t s g → (SomeUnwanted n t (graph_of_rows s) (graph_of_rows g) → ⊥) →
         RecordOf n t (remainder earlier n t g s) new → room < length new → ExplainDue earlier room beside g s NoRoom
     -- 22: "Too few bytes lent for the reasons gives 22, after 8"; there is "one byte for each of its links" (Paper 13).
-    no-reason-room : (new : List ℕ) → RowsBelow n t s g → (SomeUnwanted n t (graphOfRows s) (graphOfRows g) → ⊥) →
-        (one : RecordOf n t (remainder earlier n t g s) new) → length new ≤ room → beside < linksIn one.is-written.form →
+    no-reason-room : (new : List ℕ) → RowsBelow n t s g → (SomeUnwanted n t (graph_of_rows s) (graph_of_rows g) → ⊥) →
+        (one : RecordOf n t (remainder earlier n t g s) new) → length new ≤ room → beside < links_in one.is-written.form →
         ExplainDue earlier room beside g s NoReasonRoom
     -- the length of the difference's record
-    fits : (new : List ℕ) → RowsBelow n t s g → (SomeUnwanted n t (graphOfRows s) (graphOfRows g) → ⊥) →
-        (one : RecordOf n t (remainder earlier n t g s) new) → length new ≤ room → linksIn one.is-written.form ≤ beside →
+    fits : (new : List ℕ) → RowsBelow n t s g → (SomeUnwanted n t (graph_of_rows s) (graph_of_rows g) → ⊥) →
+        (one : RecordOf n t (remainder earlier n t g s) new) → length new ≤ room → links_in one.is-written.form ≤ beside →
         ExplainDue earlier room beside g s (Length (length new))
 
 -- The replies of the calls. `Then` gives the replies that the two graphs give once the table and both graphs are accepted.
@@ -131,7 +131,7 @@ module _ (n : ℕ) (t : List ℕ) where
 
   -- Rewriting: 1 to 3, 4 to 7, 8.
   abbrev pub RewriteDue : List ℕ → ℕ → Reply → Type 0
-  RewriteDue bytes room = LoneDue bytes (λ rows. RoomDue n t (graphOfRows rows) room)
+  RewriteDue bytes room = LoneDue bytes (λ rows. RoomDue n t (graph_of_rows rows) room)
 
   -- Order: 1 to 3, first and second 4 to 7, one of four.
   abbrev pub OrderDue : List ℕ → List ℕ → Reply → Type 0
@@ -147,11 +147,11 @@ module _ (n : ℕ) (t : List ℕ) where
 
   -- Difference: 1 to 3, first and second 4 to 7, 12, 13, 8.
   abbrev pub DifferenceDue : List ℕ → List ℕ → ℕ → Reply → Type 0
-  DifferenceDue a b room = PairDue a b (DifferDue n t byNumber room)
+  DifferenceDue a b room = PairDue a b (DifferDue n t by_number room)
 
   -- Difference with its reasons: 1 to 3, first and second 4 to 7, 12, 13, 8, 22.
   abbrev pub ExplainedDue : List ℕ → List ℕ → ℕ → ℕ → Reply → Type 0
-  ExplainedDue a b room beside = PairDue a b (ExplainDue n t byNumber room beside)
+  ExplainedDue a b room beside = PairDue a b (ExplainDue n t by_number room beside)
 
 -- The replies of the calls with a list of types for features (Paper 9).
 
@@ -179,7 +179,7 @@ module _ (n : ℕ) (t list : List ℕ) where
     types : opened n t ≡ Accepted → (TypesListed → ⊥) → LoneListedDue bytes Then TypeList
     -- 4 to 7, 18
     graph : (fault : GraphFault) → Listing → GraphDue bytes fault → LoneListedDue bytes Then (OfGraph fault First)
-    one : {r : Reply} (rows : List (Row Label)) → Listing → reading n bytes ≡ accepted rows → Appropriate t list (graphOfRows rows) → Then rows r →
+    one : {r : Reply} (rows : List (Row Label)) → Listing → reading n bytes ≡ accepted rows → Appropriate t list (graph_of_rows rows) → Then rows r →
         LoneListedDue bytes Then r
 
   -- The replies of a call with two records and a list.
@@ -192,12 +192,12 @@ module _ (n : ℕ) (t list : List ℕ) where
     first : (fault : GraphFault) → Listing → GraphDue a fault → PairListedDue a b Then (OfGraph fault First)
     -- the second graph's 4 to 7, 18
     second : (fault : GraphFault) → Listing → Fits n t list a → GraphDue b fault → PairListedDue a b Then (OfGraph fault Second)
-    both : {r : Reply} (s g : List (Row Label)) → TypesListed → Given n t a b s g → Appropriate t list (graphOfRows s) →
-        Appropriate t list (graphOfRows g) → Then s g r → PairListedDue a b Then r
+    both : {r : Reply} (s g : List (Row Label)) → TypesListed → Given n t a b s g → Appropriate t list (graph_of_rows s) →
+        Appropriate t list (graph_of_rows g) → Then s g r → PairListedDue a b Then r
 
   -- Rewriting with a list: 1 to 3, 17, 4 to 7, 18, 8.
   abbrev pub RewriteListedDue : List ℕ → ℕ → Reply → Type 0
-  RewriteListedDue bytes room = LoneListedDue bytes (λ rows. RoomDue n t (graphOfRows rows) room)
+  RewriteListedDue bytes room = LoneListedDue bytes (λ rows. RoomDue n t (graph_of_rows rows) room)
 
   -- Common part with a list: 1 to 3, 17, first and second 4 to 7 and 18, 11, 8.
   abbrev pub GeneralizeListedDue : List ℕ → List ℕ → ℕ → Reply → Type 0
@@ -220,11 +220,11 @@ module _ (n : ℕ) (t list : List ℕ) where
 
   -- Difference by a reading order: 1 to 3, 19, first and second 4 to 7, 12, 13, 8.
   abbrev pub DifferenceByDue : List ℕ → List ℕ → ℕ → Reply → Type 0
-  DifferenceByDue a b room = ByListDue (PairDue n t a b (DifferDue n t (byReading list) room))
+  DifferenceByDue a b room = ByListDue (PairDue n t a b (DifferDue n t (by_reading list) room))
 
   -- The same with its reasons, and 22 after 8.
   abbrev pub ExplainedByDue : List ℕ → List ℕ → ℕ → ℕ → Reply → Type 0
-  ExplainedByDue a b room beside = ByListDue (PairDue n t a b (ExplainDue n t (byReading list) room beside))
+  ExplainedByDue a b room beside = ByListDue (PairDue n t a b (ExplainDue n t (by_reading list) room beside))
 
 -- The replies of a call of the listing (Paper 14). F is the number of features.
 

@@ -8,35 +8,35 @@ use native.Mathlib.Omega.{arith}
 use lib.Dec.{eqb, leb}
 use lib.ListN.{length, get_or, take, drop, replicate, length-replicate}
 use lib.Seq.{length-take-le}
-use Rattle.graphs.specs.Number.{Canonical, canonical, manyNodes, manyLinks, written as canonicalRows}
+use Rattle.graphs.specs.Number.{Canonical, canonical, many_nodes, many_links, written as canonicalRows}
 use Rattle.graphs.specs.Order.{subsumes}
 use Rattle.graphs.specs.Difference.{Link}
-use Rattle.graphs.specs.Reasons.{writtenOrder}
+use Rattle.graphs.specs.Reasons.{written_order}
 use Rattle.graphs.proofs.Search.{true-false}
 use Rattle.graphs.proofs.Below.{map_below}
 use Rattle.lattice.specs.Label.{Label}
-use Rattle.lattice.specs.Labels.{tableLabels}
+use Rattle.lattice.specs.Labels.{table_labels}
 use Rattle.lattice.proofs.Laws.{accepted-size}
-use Rattle.layout.specs.Layout.{Recorded, graphIn, rows_of}
+use Rattle.layout.specs.Layout.{Recorded, graph_in, rows_of}
 use Rattle.encoder.specs.Encode.{encoded}
 use Rattle.encode.specs.declared.Written.{Written}
 use Rattle.encode.specs.declared.Written.TheVariants as outcome
 use Rattle.encode.specs.declared.Marked.{Marked}
 use Rattle.encode.specs.declared.Marked.TheVariants as marked
-use Rattle.encode.specs.Encode.{fitted, writtenOut, yielding}
-use Rattle.encode.specs.Marks.{Noted, noting, fittedBoth, markedOut, marksAlong}
+use Rattle.encode.specs.Encode.{fitted, written_out, yielding}
+use Rattle.encode.specs.Marks.{Noted, noting, fitted_both, marked_out, marks_along}
 use Rattle.record.proofs.Accepted.{rules-of-any-size}
 use Rattle.record.specs.Reads.{Loaded}
 use Rattle.record.proofs.Loaded.{loaded-rules, loaded-reached, loaded-recorded}
 use Rattle.record.proofs.Ordered.{order-test}
 use Rattle.replies.specs.declared.Reply.{Reply}
 use Rattle.replies.specs.declared.Reply.TheVariants.{Length, NotBelow, NoWantedType, NoReasonRoom}
-use Rattle.replies.specs.Reply.{Result, resulting, result_of, replyOf, refusing, length_of}
+use Rattle.replies.specs.Reply.{Result, resulting, result_of, reply_of, refusing, length_of}
 use Rattle.subsume.specs.declared.Order.{Order}
 use Rattle.subsume.specs.declared.Order.TheVariants as order
 use Rattle.subsume.specs.Promise.{Orders}
 use Rattle.link_orders.specs.declared.LinkOrder.{LinkOrder}
-use Rattle.link_orders.specs.LinkOrders.{earlierBy}
+use Rattle.link_orders.specs.LinkOrders.{earlier_by}
 use Rattle.groups.specs.Marks.{Marked as MarkedBy}
 use Rattle.groups.proofs.Ordering.{earlier-by-order}
 use Rattle.reasons.specs.Explaining.{Made, Explains}
@@ -45,9 +45,9 @@ use Rattle.wanting.specs.Wanted.{WantsAll}
 use Rattle.difference.specs.declared.Options.{Options}
 use Rattle.difference.specs.Prepared.{Prepared}
 use Rattle.difference.specs.Comparable.{Comparable}
-use Rattle.difference.specs.Promise.{allWantedAlong, differenceAlong}
-use Rattle.difference.specs.Difference.{allWanted, differenceRows, differed}
-use Rattle.difference.specs.Explained.{Explained, explainedResult, lengthWithReasons, withReasons, withReasonsIf, reasonsRows, differedWords, markedReply}
+use Rattle.difference.specs.Promise.{all_wanted_along, difference_along}
+use Rattle.difference.specs.Difference.{all_wanted, difference_rows, differed}
+use Rattle.difference.specs.Explained.{Explained, explained_result, length_with_reasons, with_reasons, with_reasons_if, reasons_rows, differed_words, marked_reply}
 use Rattle.difference.specs.Writing.{WritesRows}
 use Rattle.difference.proofs.Result.{answers-wanted, made-canonical, made-reasons}
 use Rattle.difference.proofs.Along.{all-along, difference-along, reasons-along}
@@ -82,18 +82,18 @@ asked-below n t g s given orders below =
 
 -- With wanted labels and marks, the graphs meet what making the rows requires.
 pub prepared-below : (order : LinkOrder) (n : ℕ) (t g s : List ℕ) {map marks labels : List ℕ} {wanted : Bool} → Asked n t g s map →
-    WantsAll n t s g map wanted labels → wanted ≡ true → MarkedBy (earlierBy order) s g map marks →
-    Prepared (earlierBy order) n t g s map marks labels
+    WantsAll n t s g map wanted labels → wanted ≡ true → MarkedBy (earlier_by order) s g map marks →
+    Prepared (earlier_by order) n t g s map marks labels
 prepared-below order n t g s asked wants all marked =
     record { asked = asked; wants = wants.wants all; strict = earlier-by-order order; marked = marked }
 
 module _ (earlier : Link ℕ → Link ℕ → Bool) (n : ℕ) (t out : List ℕ) (g s : List ℕ) (given : Loaded n g) {answer : Order} {map : List ℕ}
     (orders : Orders n t (rows_of s) (rows_of g) answer map) where
   abbrev below : Bool
-  below = subsumes (tableLabels n t) eqb eqb (graphIn s) (graphIn g) (length (rows_of g))
+  below = subsumes (table_labels n t) eqb eqb (graph_in s) (graph_in g) (length (rows_of g))
 
   abbrev written : Result
-  written = result_of (writtenOut (canonical eqb (differenceRows earlier n t (rows_of g) (rows_of s))) out)
+  written = result_of (written_out (canonical eqb (difference_rows earlier n t (rows_of g) (rows_of s))) out)
 
   abbrev chosen : Bool → Bool → Result
   chosen lies all = cond lies (cond all written (refusing NoWantedType out)) (refusing NotBelow out)
@@ -101,7 +101,7 @@ module _ (earlier : Link ℕ → Link ℕ → Bool) (n : ℕ) (t out : List ℕ)
   -- The reply is 12 where s is not below g.
   differed-refused : answer ≡ order.NotBelow → resulting NotBelow out ≡ differed earlier n t out (rows_of g) (rows_of s)
   unfolding differed
-  differed-refused e = sym (ap (λ (b : Bool). chosen b (allWanted n t (rows_of s) (rows_of g))) (go below refl))
+  differed-refused e = sym (ap (λ (b : Bool). chosen b (all_wanted n t (rows_of s) (rows_of g))) (go below refl))
     where
       go : (b : Bool) → below ≡ b → b ≡ false
       go false q = refl
@@ -111,24 +111,24 @@ module _ (earlier : Link ℕ → Link ℕ → Bool) (n : ℕ) (t out : List ℕ)
     lies-below : below ≡ true
     lies-below = (order-test n t (rows_of s) (rows_of g) (loaded-rules given)).1 (map_below (orders.yes-stands e))
 
-    chosen-all : (b : Bool) → b ≡ allWantedAlong n t (rows_of s) (rows_of g) (λ y. get_or map y 0) →
+    chosen-all : (b : Bool) → b ≡ all_wanted_along n t (rows_of s) (rows_of g) (λ y. get_or map y 0) →
         chosen true b ≡ differed earlier n t out (rows_of g) (rows_of s)
     unfolding differed
     chosen-all b all =
         ap (chosen true) (all ∙ all-along n t (rows_of s) (rows_of g) map (loaded-rules given) (orders.yes-stands e)) ∙
-        ap (λ (x : Bool). chosen x (allWanted n t (rows_of s) (rows_of g))) (sym lies-below)
+        ap (λ (x : Bool). chosen x (all_wanted n t (rows_of s) (rows_of g))) (sym lies-below)
 
     -- The reply is 13 where a node has no wanted label.
-    differed-unwanted : false ≡ allWantedAlong n t (rows_of s) (rows_of g) (λ y. get_or map y 0) →
+    differed-unwanted : false ≡ all_wanted_along n t (rows_of s) (rows_of g) (λ y. get_or map y 0) →
         resulting NoWantedType out ≡ differed earlier n t out (rows_of g) (rows_of s)
     differed-unwanted = chosen-all false
 
     -- Else the difference is written, or the reply is 11 or 8.
-    differed-same : true ≡ allWantedAlong n t (rows_of s) (rows_of g) (λ y. get_or map y 0) →
-        result_of (writtenOut (canonical eqb (differenceAlong earlier n t (rows_of s) (rows_of g) (λ y. get_or map y 0))) out) ≡
+    differed-same : true ≡ all_wanted_along n t (rows_of s) (rows_of g) (λ y. get_or map y 0) →
+        result_of (written_out (canonical eqb (difference_along earlier n t (rows_of s) (rows_of g) (λ y. get_or map y 0))) out) ≡
         differed earlier n t out (rows_of g) (rows_of s)
     differed-same all =
-        ap (λ k. result_of (writtenOut (canonical eqb k) out))
+        ap (λ k. result_of (written_out (canonical eqb k) out))
         (difference-along n t (rows_of s) (rows_of g) map (loaded-rules given) (orders.yes-stands e) earlier) ∙
         chosen-all true all
 
@@ -136,21 +136,21 @@ module _ (earlier : Link ℕ → Link ℕ → Bool) (n : ℕ) (t out : List ℕ)
 
 -- A refusal without reasons is the same refusal with reasons.
 pub refuses-with-reasons : (explained : Bool) {plain : Result} (r : Reply) (reasons out old : List ℕ) → length_of r ≡ none → resulting r out ≡ plain →
-    explainedResult r out old ≡ withReasonsIf explained plain reasons out old
+    explained_result r out old ≡ with_reasons_if explained plain reasons out old
 refuses-with-reasons true r reasons out old e q =
-    ap (λ (o : Option ℕ). lengthWithReasons o (resulting r out) reasons out old) (sym e) ∙ ap (λ (p : Result). withReasons p reasons out old) q
-refuses-with-reasons false r reasons out old e q = ap (λ (p : Result). explainedResult p.reply p.output old) q
+    ap (λ (o : Option ℕ). length_with_reasons o (resulting r out) reasons out old) (sym e) ∙ ap (λ (p : Result). with_reasons p reasons out old) q
+refuses-with-reasons false r reasons out old e q = ap (λ (p : Result). explained_result p.reply p.output old) q
 
 -- The result of writing with marks.
 abbrev noted : Noted → Explained
-noted o = explainedResult (markedReply o.answer) o.output o.beside
+noted o = explained_result (marked_reply o.answer) o.output o.beside
 
 -- Writing with marks has the result of writing, with the marks beside it.
 noted-with-reasons : (form : Canonical Label) (marks out old : List ℕ) →
-    noted (markedOut form marks out old) ≡ withReasons (result_of (writtenOut form out)) marks out old
-unfolding markedOut writtenOut fitted fittedBoth
-noted-with-reasons manyNodes marks out old = refl
-noted-with-reasons manyLinks marks out old = refl
+    noted (marked_out form marks out old) ≡ with_reasons (result_of (written_out form out)) marks out old
+unfolding marked_out written_out fitted fitted_both
+noted-with-reasons many_nodes marks out old = refl
+noted-with-reasons many_links marks out old = refl
 noted-with-reasons (canonicalRows rows) marks out old = record-fits (leb (length bytes) (length out))
   where
     bytes : List ℕ
@@ -159,8 +159,8 @@ noted-with-reasons (canonicalRows rows) marks out old = record-fits (leb (length
     marks-fit : (c : Bool) → noted
         (cond c (noting (marked.Written (outcome.Length (length (encoded rows)))) (encoded rows ++ drop (length (encoded rows)) out) (marks ++ drop (length marks) old))
         (noting marked.NoMarkRoom out old)) ≡
-        cond c (explainedResult (Length (length (encoded rows))) (encoded rows ++ drop (length (encoded rows)) out) (marks ++ drop (length marks) old))
-        (explainedResult NoReasonRoom out old)
+        cond c (explained_result (Length (length (encoded rows))) (encoded rows ++ drop (length (encoded rows)) out) (marks ++ drop (length marks) old))
+        (explained_result NoReasonRoom out old)
     marks-fit true = refl
     marks-fit false = refl
 
@@ -170,7 +170,7 @@ noted-with-reasons (canonicalRows rows) marks out old = record-fits (leb (length
         (noting (marked.Written (outcome.Length (length (encoded rows)))) (encoded rows ++ drop (length (encoded rows)) out) (marks ++ drop (length marks) old))
         (noting marked.NoMarkRoom out old))
         (noting (marked.Written outcome.NoRoom) out old)) ≡
-        withReasons
+        with_reasons
         (result_of (cond b (yielding (outcome.Length (length (encoded rows))) (encoded rows ++ drop (length (encoded rows)) out)) (yielding outcome.NoRoom out)))
         marks out old
     record-fits true = marks-fit (leb (length marks) (length old))
@@ -178,31 +178,31 @@ noted-with-reasons (canonicalRows rows) marks out old = record-fits (leb (length
 
 module _ {explained : Bool} {s marks words : List ℕ} (out old : List ℕ) where
   -- The record is written without reasons.
-  pub plain-written : explained ≡ false → {w : Written} {r : Reply} {new : List ℕ} → yielding w new ≡ writtenOut (canonical eqb (graphIn words)) out → r ≡ replyOf w →
-      WritesRows explained s marks words out old (explainedResult r new old)
+  pub plain-written : explained ≡ false → {w : Written} {r : Reply} {new : List ℕ} → yielding w new ≡ written_out (canonical eqb (graph_in words)) out → r ≡ reply_of w →
+      WritesRows explained s marks words out old (explained_result r new old)
   plain-written e {new = new} yields said =
       record {
         held = [];
         explains = λ p. true-false p e;
         is =
-            ap (λ (q : Reply). explainedResult q new old) said
-            ∙ ap (λ (p : Result). explainedResult p.reply p.output old) (ap result_of yields)
-            ∙ ap (λ (b : Bool). withReasonsIf b (result_of (writtenOut (canonical eqb (graphIn words)) out)) (marksAlong words [] (writtenOrder eqb (graphIn words))) out old) (sym e);
+            ap (λ (q : Reply). explained_result q new old) said
+            ∙ ap (λ (p : Result). explained_result p.reply p.output old) (ap result_of yields)
+            ∙ ap (λ (b : Bool). with_reasons_if b (result_of (written_out (canonical eqb (graph_in words)) out)) (marks_along words [] (written_order eqb (graph_in words))) out old) (sym e);
       }
 
   -- The record is written with its reasons.
   pub marked-written : explained ≡ true → {held : List ℕ} → Explains s marks words held → {m : Marked} {r : Reply} {new reasons : List ℕ} →
-      noting m new reasons ≡ markedOut (canonical eqb (graphIn words)) (marksAlong words held (writtenOrder eqb (graphIn words))) out old → r ≡ markedReply m →
-      WritesRows explained s marks words out old (explainedResult r new reasons)
+      noting m new reasons ≡ marked_out (canonical eqb (graph_in words)) (marks_along words held (written_order eqb (graph_in words))) out old → r ≡ marked_reply m →
+      WritesRows explained s marks words out old (explained_result r new reasons)
   marked-written e {held} explains {new = new} {reasons = reasons} yields said =
       record {
         held = held;
         explains = λ _. explains;
         is =
-            ap (λ (q : Reply). explainedResult q new reasons) said
+            ap (λ (q : Reply). explained_result q new reasons) said
             ∙ ap noted yields
-            ∙ noted-with-reasons (canonical eqb (graphIn words)) (marksAlong words held (writtenOrder eqb (graphIn words))) out old
-            ∙ ap (λ (b : Bool). withReasonsIf b (result_of (writtenOut (canonical eqb (graphIn words)) out)) (marksAlong words held (writtenOrder eqb (graphIn words))) out old) (sym e);
+            ∙ noted-with-reasons (canonical eqb (graph_in words)) (marks_along words held (written_order eqb (graph_in words))) out old
+            ∙ ap (λ (b : Bool). with_reasons_if b (result_of (written_out (canonical eqb (graph_in words)) out)) (marks_along words held (written_order eqb (graph_in words))) out old) (sym e);
       }
 
 -- The reply to a call for a difference.
@@ -210,22 +210,22 @@ module _ {explained : Bool} {s marks words : List ℕ} (out old : List ℕ) wher
 module _ (options : Options) (n : ℕ) (t g s out old : List ℕ) (given : Comparable n t g s) {answer : Order} {map : List ℕ}
     (orders : Orders n t (rows_of s) (rows_of g) answer map) where
   abbrev earlier : Link ℕ → Link ℕ → Bool
-  earlier = earlierBy options.order
+  earlier = earlier_by options.order
 
   -- The reply is 12 where s is not below g.
-  pub answers-not-below : answer ≡ order.NotBelow → explainedResult NotBelow out old ≡ differedWords options n t g s out old
+  pub answers-not-below : answer ≡ order.NotBelow → explained_result NotBelow out old ≡ differed_words options n t g s out old
   answers-not-below e =
-      refuses-with-reasons options.explained NotBelow (reasonsRows earlier n t (rows_of g) (rows_of s)) out old refl
+      refuses-with-reasons options.explained NotBelow (reasons_rows earlier n t (rows_of g) (rows_of s)) out old refl
       (differed-refused earlier n t out g s given.general orders e)
 
   module _ (below : answer ≡ order.Below) {wanted : Bool} {labels : List ℕ} (wants : WantsAll n t s g map wanted labels) where
-    is-wanted : wanted ≡ allWantedAlong n t (rows_of s) (rows_of g) (λ y. get_or map y 0)
+    is-wanted : wanted ≡ all_wanted_along n t (rows_of s) (rows_of g) (λ y. get_or map y 0)
     is-wanted = answers-wanted (asked-below n t g s given orders below) wants
 
     -- The reply is 13 where a node has no wanted label.
-    pub answers-unwanted : wanted ≡ false → explainedResult NoWantedType out old ≡ differedWords options n t g s out old
+    pub answers-unwanted : wanted ≡ false → explained_result NoWantedType out old ≡ differed_words options n t g s out old
     answers-unwanted e =
-        refuses-with-reasons options.explained NoWantedType (reasonsRows earlier n t (rows_of g) (rows_of s)) out old refl
+        refuses-with-reasons options.explained NoWantedType (reasons_rows earlier n t (rows_of g) (rows_of s)) out old refl
         (differed-unwanted earlier n t out g s given.general orders below (sym e ∙ is-wanted))
 
     -- Else the difference is written, with its reasons if they are asked for.
@@ -233,21 +233,21 @@ module _ (options : Options) (n : ℕ) (t g s out old : List ℕ) (given : Compa
       prepared : Prepared earlier n t g s map marks labels
       prepared = prepared-below options.order n t g s (asked-below n t g s given orders below) wants all by
 
-      plain-same : result_of (writtenOut (canonical eqb (graphIn words)) out) ≡ differed earlier n t out (rows_of g) (rows_of s)
+      plain-same : result_of (written_out (canonical eqb (graph_in words)) out) ≡ differed earlier n t out (rows_of g) (rows_of s)
       plain-same =
-          ap (λ (k : Canonical Label). result_of (writtenOut k out)) (sym (made-canonical prepared made))
+          ap (λ (k : Canonical Label). result_of (written_out k out)) (sym (made-canonical prepared made))
           ∙ differed-same earlier n t out g s given.general orders below (sym all ∙ is-wanted)
 
-      pub answers-written : {x : Explained} → WritesRows options.explained s marks words out old x → x ≡ differedWords options n t g s out old
+      pub answers-written : {x : Explained} → WritesRows options.explained s marks words out old x → x ≡ differed_words options n t g s out old
       answers-written {x} writes = writes.is ∙ go options.explained refl
         where
           go : (b : Bool) → options.explained ≡ b →
-              withReasonsIf b (result_of (writtenOut (canonical eqb (graphIn words)) out))
-              (marksAlong words writes.held (writtenOrder eqb (graphIn words))) out old ≡
-              withReasonsIf b (differed earlier n t out (rows_of g) (rows_of s)) (reasonsRows earlier n t (rows_of g) (rows_of s)) out old
-          go false e = ap (λ (p : Result). explainedResult p.reply p.output old) plain-same
+              with_reasons_if b (result_of (written_out (canonical eqb (graph_in words)) out))
+              (marks_along words writes.held (written_order eqb (graph_in words))) out old ≡
+              with_reasons_if b (differed earlier n t out (rows_of g) (rows_of s)) (reasons_rows earlier n t (rows_of g) (rows_of s)) out old
+          go false e = ap (λ (p : Result). explained_result p.reply p.output old) plain-same
           go true e =
-              ap₂ (λ (p : Result) (rs : List ℕ). withReasons p rs out old) plain-same
+              ap₂ (λ (p : Result) (rs : List ℕ). with_reasons p rs out old) plain-same
               (sym (made-reasons prepared made (writes.explains e))
               ∙ reasons-along n t (rows_of s) (rows_of g) map (loaded-rules given.general) (orders.yes-stands below) earlier)
 

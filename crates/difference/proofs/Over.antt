@@ -19,8 +19,8 @@ use Rattle.graphs.proofs.Search.{true-false}
 use Rattle.graphs.proofs.Below.{walk-map, carries-map}
 use Rattle.graphs.proofs.Order.{listed-together, together-listed}
 use Rattle.lattice.specs.Label.{Label}
-use Rattle.lattice.specs.Labels.{tableLabels}
-use Rattle.record.specs.Read.{graphOfRows}
+use Rattle.lattice.specs.Labels.{table_labels}
+use Rattle.record.specs.Read.{graph_of_rows}
 use Rattle.record.proofs.Accepted.{Rules, rules-of-any-size}
 use Rattle.record.proofs.Ordered.{short}
 use Rattle.difference.specs.Difference.{first_at, over}
@@ -40,27 +40,27 @@ first-listed y (z ∷ xs) x m = go (eqb z.1 y) refl (first-listed y xs x)
         (λ i. mathlib.Core.List.Memᴰ.tail (later i)) (mathlib.Core.List.Memᴰ.cases_cons m)
 
 module _ (n : ℕ) (t : List ℕ) (g s : List (Row Label)) (general : Rules n g)
-    (below : Below (tableLabels n t) (graphOfRows s) (graphOfRows g)) where
+    (below : Below (table_labels n t) (graph_of_rows s) (graph_of_rows g)) where
   -- "Each path of g leads to one node of s"
-  over-carries : (p : List ℕ) (y : ℕ) → walk (graphOfRows g) p ≡ some y → walk (graphOfRows s) p ≡ some (over s g y)
+  over-carries : (p : List ℕ) (y : ℕ) → walk (graph_of_rows g) p ≡ some y → walk (graph_of_rows s) p ≡ some (over s g y)
   unfolding over
   over-carries p y e =
       let small = (rules-of-any-size n g general t).any-size.features in
       let (x, d, _) = below.paths p y e in
-      let listed : Memᴰ (x, y) (meetings (graphOfRows s) (graphOfRows g) (length g)) =
-      together-listed (tableLabels n t) eqb eqb tells-eqb tells-eqb (graphOfRows s) (graphOfRows g) small (length g) (short n t s g general)
+      let listed : Memᴰ (x, y) (meetings (graph_of_rows s) (graph_of_rows g) (length g)) =
+      together-listed (table_labels n t) eqb eqb tells-eqb tells-eqb (graph_of_rows s) (graph_of_rows g) small (length g) (short n t s g general)
       (x, y) (p, d, e) in
       let (q, c, i) =
-      listed-together (tableLabels n t) eqb eqb tells-eqb tells-eqb (graphOfRows s) (graphOfRows g) small (length g) (short n t s g general)
-      (over s g y, y) (first-listed y (meetings (graphOfRows s) (graphOfRows g) (length g)) x listed) in
+      listed-together (table_labels n t) eqb eqb tells-eqb tells-eqb (graph_of_rows s) (graph_of_rows g) small (length g) (short n t s g general)
+      (over s g y, y) (first-listed y (meetings (graph_of_rows s) (graph_of_rows g) (length g)) x listed) in
       let (_, j, k) = below.corefers p q (y, e, i) in
       j ∙ sym k ∙ c
 
-  pub over-map : NodeMap (tableLabels n t) (graphOfRows s) (graphOfRows g) (over s g)
+  pub over-map : NodeMap (table_labels n t) (graph_of_rows s) (graph_of_rows g) (over s g)
   over-map = carries-map below (over s g) over-carries
 
   -- Every node map is this one, because two walks along one path end at one node.
-  pub over-only : (to : ℕ → ℕ) → NodeMap (tableLabels n t) (graphOfRows s) (graphOfRows g) to → (y : ℕ) → y < length g → over s g y ≡ to y
+  pub over-only : (to : ℕ → ℕ) → NodeMap (table_labels n t) (graph_of_rows s) (graph_of_rows g) to → (y : ℕ) → y < length g → over s g y ≡ to y
   over-only to map y h =
       let (p, e) = general.reached y h in
       some-unique (over-carries p y e) (walk-map map p y e)

@@ -14,8 +14,8 @@ use lib.ListN.{length, get_or}
 use Rattle.graphs.specs.Graph.{Graph, AnySize, Reached, follow}
 use Rattle.graphs.specs.Rows.{from}
 use Rattle.graphs.specs.Number.{canonical}
-use Rattle.graphs.specs.Difference.{Link, StrictOrder, difference, bare, differ, lead, leaders, meetOver}
-use Rattle.graphs.specs.Reasons.{reasonAt, alongLinks, writtenOrder}
+use Rattle.graphs.specs.Difference.{Link, StrictOrder, difference, bare, differ, lead, leaders, meet_over}
+use Rattle.graphs.specs.Reasons.{reason_at, along_links, written_order}
 use Rattle.graphs.proofs.Walk.{none-some, some-unique, reached-link}
 use Rattle.graphs.proofs.Lists.{from_member, from-range, tells-eqb}
 use Rattle.graphs.proofs.Search.{true-false}
@@ -24,7 +24,7 @@ use Rattle.graphs.proofs.Form.Invariant.{Pointwise, pointwise-listed, bisimilar-
 use Rattle.graphs.proofs.Reasons.{along-same}
 use Rattle.graphs.proofs.Unification.Beside.{Operands}
 use Rattle.graphs.proofs.Difference.Induct.{children-first}
-use Rattle.graphs.proofs.Difference.Laws.{Leader, Enters, Reason, atRoot, twoGroups, bareGroup, ownLabel, keptBelow, Idle}
+use Rattle.graphs.proofs.Difference.Laws.{Leader, Enters, Reason, at_root, two_groups, bare_group, own_label, kept_below, Idle}
 use Rattle.graphs.proofs.Difference.Groups.{bare-enters, not-bare-enters}
 use Rattle.graphs.proofs.Difference.Keeps.{keep, kept, leaders-listed, differ-two, differ-one, root_kept, keep-reason, keep-idle, kept-links}
 use Rattle.lattice.specs.Table.{every, found}
@@ -32,34 +32,34 @@ use Rattle.lattice.specs.Label.{Label, no_label}
 use Rattle.lattice.proofs.Every.{every-same}
 use Rattle.lattice.proofs.Laws.{accepted-size}
 use Rattle.lattice.proofs.Lawful.{known_more}
-use Rattle.lattice.specs.Labels.{tableLabels, wantedLabel}
-use Rattle.layout.specs.Layout.{scale, labelFrom, size, label_at, featureAt, targetAt, rows_of, graphIn, Sound, Place, rowsEnd}
+use Rattle.lattice.specs.Labels.{table_labels, wanted_label}
+use Rattle.layout.specs.Layout.{scale, label_from, size, label_at, feature_at, target_at, rows_of, graph_in, Sound, Place, rows_end}
 use Rattle.layout.proofs.Rows.{length-rows}
 use Rattle.layout.proofs.Places.{label-at, link-at, link-place, link-known}
 use Rattle.layout.proofs.Reaching.{reached-inside}
 use Rattle.layout.proofs.Order.{place-before}
-use Rattle.encode.specs.Marks.{marksAlong}
+use Rattle.encode.specs.Marks.{marks_along}
 use Rattle.encode.proofs.WrittenForm.{marks-tell}
 use Rattle.visits.specs.Walks.{Reaches}
 use Rattle.record.proofs.Words.{reaches-walk, reaches-inside}
 use Rattle.cover.specs.Cover.{Lying}
 use Rattle.groups.specs.Marks.{At, Marked}
 use Rattle.groups.proofs.Leading.{at_one, one_at, at-link, link-stands, Says, follows-it, leads-covered, leads_bare, mark-says}
-use Rattle.difference.specs.Promise.{wantedAlong, differenceAlong, reasonsAlong, allWantedAlong}
+use Rattle.difference.specs.Promise.{wanted_along, difference_along, reasons_along, all_wanted_along}
 use Rattle.wanting.specs.Asked.{Asked}
-use Rattle.wanting.specs.Wanted.{wantedAt, Wants, WantsAll, metFrom}
+use Rattle.wanting.specs.Wanted.{wanted_at, Wants, WantsAll, met_from}
 use Rattle.wanting.proofs.Asked.{over-inside}
-use Rattle.keeping.specs.Keeping.{Cause, Leads, several, alone, Stays, Why, isRoot, caused, untop, onward, Keeps, Markable}
+use Rattle.keeping.specs.Keeping.{Cause, Leads, several, alone, Stays, Why, is_root, caused, untop, onward, Keeps, Markable}
 use Rattle.keeping.specs.Thinning.{Kept}
-use Rattle.reasons.specs.Explaining.{Made, Copied, Explains, reasonBy}
+use Rattle.reasons.specs.Explaining.{Made, Copied, Explains, reason_by}
 use Rattle.difference.specs.Prepared.{Prepared}
-use Rattle.difference.proofs.Labels.{wants-known, meetWhere-same}
+use Rattle.difference.proofs.Labels.{wants-known, meet_where-same}
 use Rattle.keeping.proofs.Thinning.{rows-sound, copied-feature, copied-target}
 use Rattle.reasons.proofs.Explaining.{reason-one, reason-two, reason-three}
 
 -- A node that links reach is the end of a path.
 module _ {ws : List ℕ} (sound : Sound ws) where
-  acyclic-words : (n : ℕ) (t : List ℕ) → AnySize (tableLabels n t) (graphIn ws) → ((v : ℕ) → v < size ws → Reached (graphIn ws) v) →
+  acyclic-words : (n : ℕ) (t : List ℕ) → AnySize (table_labels n t) (graph_in ws) → ((v : ℕ) → v < size ws → Reached (graph_in ws) v) →
       (v : ℕ) → Reaches ws v v → ⊥
   acyclic-words n t any reached v r =
       let (f, p, e) = reaches-walk sound r in
@@ -68,10 +68,10 @@ module _ {ws : List ℕ} (sound : Sound ws) where
 -- Both graphs.
 module _ {n : ℕ} {t gw sw map : List ℕ} (asked : Asked n t gw sw map) where
   abbrev s : Graph Label ℕ
-  s = graphIn sw
+  s = graph_in sw
 
   abbrev g : Graph Label ℕ
-  g = graphIn gw
+  g = graph_in gw
 
   abbrev over : ℕ → ℕ
   over y = get_or map y 0
@@ -110,11 +110,11 @@ module _ {n : ℕ} {t gw sw map : List ℕ} (asked : Asked n t gw sw map) where
   lying-words =
       record { lower = asked.lower; upper = asked.upper; short = asked.short; mapped = over-inside asked; found = found }
     where
-      found : (y i : ℕ) → Place gw y i → (j : ℕ) × Place sw (over y) j × (featureAt sw j ≡ featureAt gw i)
+      found : (y i : ℕ) → Place gw y i → (j : ℕ) × Place sw (over y) j × (feature_at sw j ≡ feature_at gw i)
       found y i p =
           let (j, a, b, e, _) =
-          link-place s-sound (over y) (featureAt gw i) (over (targetAt gw i)) (over-inside asked y p.inside)
-          (asked.lies.links y (targetAt gw i) (featureAt gw i) (asked.upper-reached y p.inside)
+          link-place s-sound (over y) (feature_at gw i) (over (target_at gw i)) (over-inside asked y p.inside)
+          (asked.lies.links y (target_at gw i) (feature_at gw i) (asked.upper-reached y p.inside)
           (link-at g-sound y i p.inside p.low p.high)) in
           (j, record { inside = over-inside asked y p.inside; low = a; high = b }, e)
 
@@ -124,33 +124,33 @@ module _ {n : ℕ} {t gw sw map : List ℕ} (asked : Asked n t gw sw map) where
 
   -- The wanted label of the node v, with the nodes of g listed by number.
   abbrev want : ℕ → Label
-  want v = Option.get_or (wantedLabel n t (s.label v) (meetOver (tableLabels n t) eqb g (from 0 (size gw)) over v)) no_label
+  want v = Option.get_or (wanted_label n t (s.label v) (meet_over (table_labels n t) eqb g (from 0 (size gw)) over v)) no_label
 
-  at_label : (v : ℕ) → v < size sw → wantedAt n t sw gw map v ≡
-      wantedLabel n t (s.label v) (meetOver (tableLabels n t) eqb g (from 0 (size gw)) over v)
-  unfolding meetOver metFrom
+  at_label : (v : ℕ) → v < size sw → wanted_at n t sw gw map v ≡
+      wanted_label n t (s.label v) (meet_over (table_labels n t) eqb g (from 0 (size gw)) over v)
+  unfolding meet_over met_from
   at_label v h =
-      ap₂ (wantedLabel n t) (sym (label-at sw v h))
-      (meetWhere-same (tableLabels n t) (λ y. eqb (over y) v) (λ y. label_at gw y) g.label (from 0 (size gw))
+      ap₂ (wanted_label n t) (sym (label-at sw v h))
+      (meet_where-same (table_labels n t) (λ y. eqb (over y) v) (λ y. label_at gw y) g.label (from 0 (size gw))
       (λ y m. sym (label-at gw y (omega (arith, from-range 0 (size gw) y m)))))
 
-  wants-labels : {labels : List ℕ} → Wants n t sw gw map (size sw) labels → (v : ℕ) → v < size sw → labelFrom labels (2 * v) ≡ want v
+  wants-labels : {labels : List ℕ} → Wants n t sw gw map (size sw) labels → (v : ℕ) → v < size sw → label_from labels (2 * v) ≡ want v
   wants-labels w v h = ap (λ o. Option.get_or o no_label) (sym (w.each v h) ∙ at_label v h)
 
-  -- The code's answer is `allWantedAlong`, which takes the length of the list of rows as the number of nodes.
+  -- The code's answer is `all_wanted_along`, which takes the length of the list of rows as the number of nodes.
   pub answers-wanted : {answer : Bool} {labels : List ℕ} → WantsAll n t sw gw map answer labels →
-      answer ≡ allWantedAlong n t (rows_of sw) (rows_of gw) (λ y. get_or map y 0)
-  unfolding allWantedAlong wantedAlong
+      answer ≡ all_wanted_along n t (rows_of sw) (rows_of gw) (λ y. get_or map y 0)
+  unfolding all_wanted_along wanted_along
   answers-wanted all =
       all.answers ∙
-      every-same (λ v. found (wantedAt n t sw gw map v))
-      (λ v. found (wantedLabel n t (s.label v) (meetOver (tableLabels n t) eqb g (from 0 (size gw)) over v))) (size sw)
+      every-same (λ v. found (wanted_at n t sw gw map v))
+      (λ v. found (wanted_label n t (s.label v) (meet_over (table_labels n t) eqb g (from 0 (size gw)) over v))) (size sw)
       (λ v h. ap found (at_label v h)) ∙
       sym
-      (ap₂ (λ (a b : ℕ). every a λ v. found (wantedLabel n t (s.label v) (meetOver (tableLabels n t) eqb g (from 0 b) over v)))
+      (ap₂ (λ (a b : ℕ). every a λ v. found (wanted_label n t (s.label v) (meet_over (table_labels n t) eqb g (from 0 b) over v)))
       (length-rows sw 0 (size sw)) (length-rows gw 0 (size gw)))
 
-  abbrev any : AnySize (tableLabels n t) s
+  abbrev any : AnySize (table_labels n t) s
   any = asked.any-size
 
   module _ {earlier : Link ℕ → Link ℕ → Bool} (strict : StrictOrder earlier) {marks labels keeps : List ℕ}
@@ -158,8 +158,8 @@ module _ {n : ℕ} {t gw sw map : List ℕ} (asked : Asked n t gw sw map) where
     abbrev first : ℕ → Link ℕ → Link ℕ
     first v l = lead eqb eqb s (from 0 (size sw)) g (from 0 (size gw)) over earlier v l
 
-    abbrev isKept : ℕ → Bool
-    isKept v = keep operands over any earlier want v
+    abbrev is_kept : ℕ → Bool
+    is_kept v = keep operands over any earlier want v
 
     abbrev says : (k : ℕ) (l : Link ℕ) → At sw k l → Type 0
     says k l at = Says n t lying-words operands asked.lies strict marked k l at
@@ -168,63 +168,63 @@ module _ {n : ℕ} {t gw sw map : List ℕ} (asked : Asked n t gw sw map) where
     read k l at = mark-says n t lying-words operands asked.lies strict marked k l at
 
     -- A link whose mark is not 0 leads its group.
-    marked-leads : (k : ℕ) (l : Link ℕ) (at : At sw k l) → (get_or marks k 0 ≡ 0 → ⊥) → Leader s first (targetAt sw k) l
+    marked-leads : (k : ℕ) (l : Link ℕ) (at : At sw k l) → (get_or marks k 0 ≡ 0 → ⊥) → Leader s first (target_at sw k) l
     marked-leads k l at d = go (read k l at)
       where
-        go : says k l at → Leader s first (targetAt sw k) l
+        go : says k l at → Leader s first (target_at sw k) l
         go (follows-it e x) = absurd (d e)
         go (leads-covered e x z c) = x
         go (leads_bare e x c) = x
 
     -- A link that leads its group stands at a place whose mark is not 0.
     leads-marked : (v : ℕ) (l : Link ℕ) → Leader s first v l →
-        (k : ℕ) × At sw k l × (targetAt sw k ≡ v) × (get_or marks k 0 ≡ 0 → ⊥)
+        (k : ℕ) × At sw k l × (target_at sw k ≡ v) × (get_or marks k 0 ≡ 0 → ⊥)
     leads-marked v l (i, e) =
         let (k, at, w) = link-stands s-sound l v (reached-inside s-sound l.0 i.0) i.1 in
         (k, at, w, go k at w (read k l at))
       where
-        go : (k : ℕ) (at : At sw k l) → targetAt sw k ≡ v → says k l at → get_or marks k 0 ≡ 0 → ⊥
+        go : (k : ℕ) (at : At sw k l) → target_at sw k ≡ v → says k l at → get_or marks k 0 ≡ 0 → ⊥
         go k at w (follows-it q x) z = x (ap (λ u. first u l) w ∙ e)
         go k at w (leads-covered q x y c) z = omega (arith, q, z)
         go k at w (leads_bare q x c) z = omega (arith, q, z)
 
     bare-marked : (v : ℕ) (l : Link ℕ) → Leader s first v l → ((z : ℕ) → Enters {L = Label} g over z l → ⊥) →
-        (k : ℕ) × At sw k l × (targetAt sw k ≡ v) × (get_or marks k 0 ≡ 2)
+        (k : ℕ) × At sw k l × (target_at sw k ≡ v) × (get_or marks k 0 ≡ 2)
     bare-marked v l (i, e) nothing =
         let (k, at, w) = link-stands s-sound l v (reached-inside s-sound l.0 i.0) i.1 in
         (k, at, w, go k at w (read k l at))
       where
-        go : (k : ℕ) (at : At sw k l) → targetAt sw k ≡ v → says k l at → get_or marks k 0 ≡ 2
+        go : (k : ℕ) (at : At sw k l) → target_at sw k ≡ v → says k l at → get_or marks k 0 ≡ 2
         go k at w (follows-it q x) = absurd (x (ap (λ u. first u l) w ∙ e))
         go k at w (leads-covered q x y c) = absurd (nothing y c)
         go k at w (leads_bare q x c) = q
 
     -- At a place in the row of v stands a link that leaves v.
-    at_row : (v k : ℕ) → Place sw v k → At sw k (v, featureAt sw k)
+    at_row : (v k : ℕ) → Place sw v k → At sw k (v, feature_at sw k)
     at_row v k p = record { place = p; feature = refl }
 
     -- Kept nodes.
 
     Same : ℕ → Type 0
-    Same v = (get_or keeps v 0 ≡ 1) ↔ (isKept v ≡ true)
+    Same v = (get_or keeps v 0 ≡ 1) ↔ (is_kept v ≡ true)
 
-    idle-why : (v : ℕ) → Reached s v → ((f w : ℕ) → s.link v f ≡ some w → Same w) → isKept v ≡ false →
-        Idle (tableLabels n t) s g over first isKept want v → Why n t sw marks labels keeps v → ⊥
+    idle-why : (v : ℕ) → Reached s v → ((f w : ℕ) → s.link v f ≡ some w → Same w) → is_kept v ≡ false →
+        Idle (table_labels n t) s g over first is_kept want v → Why n t sw marks labels keeps v → ⊥
     unfolding Same
-    idle-why v r later e idle (isRoot q) = true-false (root_kept operands over any earlier want) (ap isKept (sym q) ∙ e)
+    idle-why v r later e idle (is_root q) = true-false (root_kept operands over any earlier want) (ap is_kept (sym q) ∙ e)
     idle-why v r later e idle (caused (several a b)) =
-        let x : Link ℕ = (b.node, featureAt sw b.place) in
-        let y : Link ℕ = (a.node, featureAt sw a.place) in
+        let x : Link ℕ = (b.node, feature_at sw b.place) in
+        let y : Link ℕ = (a.node, feature_at sw a.place) in
         let atx : At sw b.place x = at_row b.node b.place b.link in
         let aty : At sw a.place y = at_row a.node a.place a.link in
         let u = marked-leads b.place x atx b.leading in
         let w = marked-leads a.place y aty a.leading in
         let z : x ≡ y =
-        idle.oneGroup x y (subst (λ m. Leader s first m x) b.enters u) (subst (λ m. Leader s first m y) a.enters w) in
+        idle.one_group x y (subst (λ m. Leader s first m x) b.enters u) (subst (λ m. Leader s first m y) a.enters w) in
         omega (arith, b.before, at_one s-sound b.place a.place y (subst (At sw b.place) z atx) aty)
     idle-why v r later e idle (caused (alone a m)) =
-        go (a.node, featureAt sw a.place) (at_row a.node a.place a.link)
-        (read a.place (a.node, featureAt sw a.place) (at_row a.node a.place a.link))
+        go (a.node, feature_at sw a.place) (at_row a.node a.place a.link)
+        (read a.place (a.node, feature_at sw a.place) (at_row a.node a.place a.link))
       where
         go : (x : Link ℕ) (at : At sw a.place x) → says a.place x at → ⊥
         go x at (follows-it q y) = omega (arith, q, m)
@@ -232,28 +232,28 @@ module _ {n : ℕ} {t gw sw map : List ℕ} (asked : Asked n t gw sw map) where
         go x at (leads_bare q y c) = let (z, d) = idle.covered x (subst (λ u. Leader s first u x) a.enters y) in c z d
     idle-why v r later e idle (untop q) =
         true-false idle.no_label
-        (ap ((tableLabels n t).le (tableLabels n t).top) (sym (wants-labels wants v (reached-inside s-sound v r))) ∙ q)
+        (ap ((table_labels n t).le (table_labels n t).top) (sym (wants-labels wants v (reached-inside s-sound v r))) ∙ q)
     idle-why v r later e idle (onward (k, low, high, x)) =
         let h = reached-inside s-sound v r in
         let at = at_row v k (record { inside = h; low = low; high = high }) in
-        let f = featureAt sw k in
-        let w = targetAt sw k in
+        let f = feature_at sw k in
+        let w = target_at sw k in
         true-false ((later f w (at-link s-sound k (v, f) at)).0 x.enters)
-        (idle.noneBelow f w (marked-leads k (v, f) at x.leads))
+        (idle.none_below f w (marked-leads k (v, f) at x.leads))
 
     -- Two links that lead their groups are a cause to keep the node that they enter.
-    two-cause : (v : ℕ) (l m : Link ℕ) → Leader s first v l → Leader s first v m → (l ≡ m → ⊥) → Cause sw marks (rowsEnd sw) v
+    two-cause : (v : ℕ) (l m : Link ℕ) → Leader s first v l → Leader s first v m → (l ≡ m → ⊥) → Cause sw marks (rows_end sw) v
     two-cause v l m a b apart =
         let (j, atj, p, x) = leads-marked v l a in
         let (i, ati, q, y) = leads-marked v m b in
         go j atj p x i ati q y (dec_lt j i) (dec_lt i j)
       where
-        standing : {u l₀ : ℕ} {l : Link ℕ} (i : ℕ) → At sw i l → i < l₀ → (get_or marks i 0 ≡ 0 → ⊥) → targetAt sw i ≡ u →
+        standing : {u l₀ : ℕ} {l : Link ℕ} (i : ℕ) → At sw i l → i < l₀ → (get_or marks i 0 ≡ 0 → ⊥) → target_at sw i ≡ u →
             Leads sw marks l₀ u
         standing {l = l} i at h x q = record { node = l.0; place = i; link = at.place; before = h; leading = x; enters = q }
 
-        go : (j : ℕ) → At sw j l → targetAt sw j ≡ v → (get_or marks j 0 ≡ 0 → ⊥) → (i : ℕ) → At sw i m → targetAt sw i ≡ v →
-            (get_or marks i 0 ≡ 0 → ⊥) → Dec (j < i) → Dec (i < j) → Cause sw marks (rowsEnd sw) v
+        go : (j : ℕ) → At sw j l → target_at sw j ≡ v → (get_or marks j 0 ≡ 0 → ⊥) → (i : ℕ) → At sw i m → target_at sw i ≡ v →
+            (get_or marks i 0 ≡ 0 → ⊥) → Dec (j < i) → Dec (i < j) → Cause sw marks (rows_end sw) v
         go j atj p x i ati q y (yes h) d =
             (several (standing i ati (place-before s-sound.shaped ati.place) y q) (standing j atj h x p))
         go j atj p x i ati q y (no h) (yes d) =
@@ -266,11 +266,11 @@ module _ {n : ℕ} {t gw sw map : List ℕ} (asked : Asked n t gw sw map) where
             at_same k l m c d = ap₂ {C = Link ℕ} (λ a b. (a, b)) (one_at s-sound k l m c d) (sym c.feature ∙ d.feature)
 
     reason-why : (v : ℕ) → Reached s v → ((f w : ℕ) → s.link v f ≡ some w → Same w) →
-        Reason (tableLabels n t) s g over first isKept want v → Why n t sw marks labels keeps v
+        Reason (table_labels n t) s g over first is_kept want v → Why n t sw marks labels keeps v
     unfolding Same
-    reason-why v r later (atRoot e) = isRoot e
-    reason-why v r later (twoGroups l m a b apart) = caused (two-cause v l m a b apart)
-    reason-why v r later (bareGroup l a nothing) =
+    reason-why v r later (at_root e) = is_root e
+    reason-why v r later (two_groups l m a b apart) = caused (two-cause v l m a b apart)
+    reason-why v r later (bare_group l a nothing) =
         let (k, at, p, m) = bare-marked v l a nothing in
         caused
         (alone
@@ -283,9 +283,9 @@ module _ {n : ℕ} {t gw sw map : List ℕ} (asked : Asked n t gw sw map) where
           enters = p;
         })
         m)
-    reason-why v r later (ownLabel e) =
-        untop (ap ((tableLabels n t).le (tableLabels n t).top) (wants-labels wants v (reached-inside s-sound v r)) ∙ e)
-    reason-why v r later (keptBelow f w a e) =
+    reason-why v r later (own_label e) =
+        untop (ap ((table_labels n t).le (table_labels n t).top) (wants-labels wants v (reached-inside s-sound v r)) ∙ e)
+    reason-why v r later (kept_below f w a e) =
         let (k, at, p, m) = leads-marked w (v, f) a in
         onward (
           k,
@@ -301,14 +301,14 @@ module _ {n : ℕ} {t gw sw map : List ℕ} (asked : Asked n t gw sw map) where
       where
         next : (v : ℕ) → Reached s v → ((f w : ℕ) → s.link v f ≡ some w → Same w) → Same v
         next v r later = (
-          λ e. there (isKept v) refl e,
+          λ e. there (is_kept v) refl e,
           λ e. code.found v h (reason-why v r later (keep-reason operands over any earlier want v r e)),
         )
           where
             h : v < size sw
             h = reached-inside s-sound v r
 
-            there : (b : Bool) → isKept v ≡ b → get_or keeps v 0 ≡ 1 → isKept v ≡ true
+            there : (b : Bool) → is_kept v ≡ b → get_or keeps v 0 ≡ 1 → is_kept v ≡ true
             there true q e = q
             there false q e =
                 absurd (idle-why v r later q (keep-idle operands over any earlier want v r q) (code.why v h e))
@@ -323,7 +323,7 @@ module _ {n : ℕ} {t gw sw map : List ℕ} (asked : Asked n t gw sw map) where
       inside' v h = omega (arith, rows.1.sized)
 
       abbrev result : Graph Label ℕ
-      result = graphIn ws
+      result = graph_in ws
 
       abbrev kept_at : ℕ → ℕ → Option ℕ
       kept_at v f = kept operands over any earlier want v f
@@ -334,8 +334,8 @@ module _ {n : ℕ} {t gw sw map : List ℕ} (asked : Asked n t gw sw map) where
           let h = reached-inside s-sound v r in
           let (i, low, high, p, q) = link-place sound' v f w (inside' v h) e in
           let (k, place, stays, c) = rows.1.each v i h low high in
-          let ef : featureAt sw k ≡ f = sym (copied-feature c) ∙ p in
-          let ew : targetAt sw k ≡ w = sym (copied-target c) ∙ q in
+          let ef : feature_at sw k ≡ f = sym (copied-feature c) ∙ p in
+          let ew : target_at sw k ≡ w = sym (copied-target c) ∙ q in
           let at : At sw k (v, f) = record { place = place; feature = ef } in
           let l : Leader s first w (v, f) = subst (λ u. Leader s first u (v, f)) ew (marked-leads k (v, f) at stays.leads) in
           (kept-links operands over any earlier want v f w r).1 (
@@ -367,7 +367,7 @@ module _ {n : ℕ} {t gw sw map : List ℕ} (asked : Asked n t gw sw map) where
               present (reached-link s f r l.0.1, some-unique (backward v f w r e) d)
 
       abbrev made : Graph Label ℕ
-      made = difference (tableLabels n t) eqb eqb earlier s (from 0 (size sw)) g (from 0 (size gw)) over want
+      made = difference (table_labels n t) eqb eqb earlier s (from 0 (size sw)) g (from 0 (size gw)) over want
 
       made_alike : Bisimilar (λ x y. Reached s x × (x ≡ y)) made result
       unfolding difference follow
@@ -390,16 +390,16 @@ module _ {n : ℕ} {t gw sw map : List ℕ} (asked : Asked n t gw sw map) where
           go absent = refl
           go (present x) = ap some x.1
 
-      -- `made` is `differenceAlong`, which takes the lengths of the lists of rows as the numbers of nodes.
-      named : differenceAlong earlier n t (rows_of sw) (rows_of gw) (λ y. get_or map y 0) ≡ made
-      unfolding differenceAlong wantedAlong
+      -- `made` is `difference_along`, which takes the lengths of the lists of rows as the numbers of nodes.
+      named : difference_along earlier n t (rows_of sw) (rows_of gw) (λ y. get_or map y 0) ≡ made
+      unfolding difference_along wanted_along
       named =
-          ap₂ (λ (a b : ℕ). difference (tableLabels n t) eqb eqb earlier s (from 0 a) g (from 0 b) over
-          (λ v. Option.get_or (wantedLabel n t (s.label v) (meetOver (tableLabels n t) eqb g (from 0 b) over v)) no_label))
+          ap₂ (λ (a b : ℕ). difference (table_labels n t) eqb eqb earlier s (from 0 a) g (from 0 b) over
+          (λ v. Option.get_or (wanted_label n t (s.label v) (meet_over (table_labels n t) eqb g (from 0 b) over v)) no_label))
           (length-rows sw 0 (size sw)) (length-rows gw 0 (size gw))
 
       -- The rows are those of the difference.
-      pub result-canonical : canonical eqb (differenceAlong earlier n t (rows_of sw) (rows_of gw) (λ y. get_or map y 0)) ≡ canonical eqb result
+      pub result-canonical : canonical eqb (difference_along earlier n t (rows_of sw) (rows_of gw) (λ y. get_or map y 0)) ≡ canonical eqb result
       result-canonical =
           ap (canonical eqb) named ∙
           bisimilar-canonical eqb eqb tells-eqb tells-eqb (λ x y. Reached s x × (x ≡ y)) made result made_alike
@@ -407,7 +407,7 @@ module _ {n : ℕ} {t gw sw map : List ℕ} (asked : Asked n t gw sw map) where
       -- Reasons.
 
       abbrev reason : Link ℕ → ℕ → ℕ
-      reason l v = reasonAt eqb eqb s (from 0 (size sw)) g (from 0 (size gw)) over earlier l v
+      reason l v = reason_at eqb eqb s (from 0 (size sw)) g (from 0 (size gw)) over earlier l v
 
       module _ {reasons : List ℕ} (explained : Explains sw marks ws reasons) where
         -- Two links that lead groups at v differ. Where a link with the mark 1 enters v, this holds exactly if v has a cause to be kept.
@@ -417,23 +417,23 @@ module _ {n : ℕ} {t gw sw map : List ℕ} (asked : Asked n t gw sw map) where
         listed : (v : ℕ) (l : Link ℕ) → Memᴰ l (leaders eqb eqb s (from 0 (size sw)) g (from 0 (size gw)) over earlier v) ↔ Leader s first v l
         listed v l = leaders-listed operands over any earlier want v l
 
-        cause-apart : (k : ℕ) (l : Link ℕ) → At sw k l → Leader s first (targetAt sw k) l → get_or marks k 0 ≡ 1 →
-            Cause sw marks (rowsEnd sw) (targetAt sw k) → apart (targetAt sw k) ≡ false → ⊥
+        cause-apart : (k : ℕ) (l : Link ℕ) → At sw k l → Leader s first (target_at sw k) l → get_or marks k 0 ≡ 1 →
+            Cause sw marks (rows_end sw) (target_at sw k) → apart (target_at sw k) ≡ false → ⊥
         cause-apart k l at lead mark cause e = go cause
           where
-            same : (x y : Link ℕ) → Leader s first (targetAt sw k) x → Leader s first (targetAt sw k) y → x ≡ y
+            same : (x y : Link ℕ) → Leader s first (target_at sw k) x → Leader s first (target_at sw k) y → x ≡ y
             same x y p q =
-                differ-one operands over any earlier want _ e x y ((listed (targetAt sw k) x).1 p) ((listed (targetAt sw k) y).1 q)
+                differ-one operands over any earlier want _ e x y ((listed (target_at sw k) x).1 p) ((listed (target_at sw k) y).1 q)
 
-            leader : {m : ℕ} (a : Leads sw marks m (targetAt sw k)) → Leader s first (targetAt sw k) (a.node, featureAt sw a.place)
+            leader : {m : ℕ} (a : Leads sw marks m (target_at sw k)) → Leader s first (target_at sw k) (a.node, feature_at sw a.place)
             leader a =
-                subst (λ v. Leader s first v (a.node, featureAt sw a.place)) a.enters
-                (marked-leads a.place (a.node, featureAt sw a.place) (at_row a.node a.place a.link) a.leading)
+                subst (λ v. Leader s first v (a.node, feature_at sw a.place)) a.enters
+                (marked-leads a.place (a.node, feature_at sw a.place) (at_row a.node a.place a.link) a.leading)
 
-            go : Cause sw marks (rowsEnd sw) (targetAt sw k) → ⊥
+            go : Cause sw marks (rows_end sw) (target_at sw k) → ⊥
             go (several a b) =
-                let x : Link ℕ = (b.node, featureAt sw b.place) in
-                let y : Link ℕ = (a.node, featureAt sw a.place) in
+                let x : Link ℕ = (b.node, feature_at sw b.place) in
+                let y : Link ℕ = (a.node, feature_at sw a.place) in
                 let z : x ≡ y = same x y (leader b) (leader a) in
                 omega (
                   arith,
@@ -442,7 +442,7 @@ module _ {n : ℕ} {t gw sw map : List ℕ} (asked : Asked n t gw sw map) where
                       (at_row a.node a.place a.link),
                 )
             go (alone a m) =
-                let x : Link ℕ = (a.node, featureAt sw a.place) in
+                let x : Link ℕ = (a.node, feature_at sw a.place) in
                 let z : x ≡ l = same x l (leader a) lead in
                 let q = at_one s-sound a.place k l (subst (At sw a.place) z (at_row a.node a.place a.link)) at in
                 one-two (sym (ap (λ (i : ℕ). get_or marks i 0) q ∙ mark) ∙ m)
@@ -451,15 +451,15 @@ module _ {n : ℕ} {t gw sw map : List ℕ} (asked : Asked n t gw sw map) where
                 one-two q = omega arith
 
         reason-by : (k : ℕ) (l : Link ℕ) (at : At sw k l) → (get_or marks k 0 ≡ 0 → ⊥) →
-            reasonBy sw marks explained.meeting k ≡ reason l (targetAt sw k)
-        unfolding reasonAt
+            reason_by sw marks explained.meeting k ≡ reason l (target_at sw k)
+        unfolding reason_at
         reason-by k l at d = go (read k l at)
           where
-            low : targetAt sw k < 255
+            low : target_at sw k < 255
             low = omega (arith, s-sound.targets l.0 k at.place.inside at.place.low at.place.high, asked.lower.small)
 
-            meets : (get_or explained.meeting (targetAt sw k) 0 ≡ 1) ↔ Cause sw marks (rowsEnd sw) (targetAt sw k)
-            meets = explained.meets (targetAt sw k) low
+            meets : (get_or explained.meeting (target_at sw k) 0 ≡ 1) ↔ Cause sw marks (rows_end sw) (target_at sw k)
+            meets = explained.meets (target_at sw k) low
 
             is-bare : (b : Bool) → bare eqb eqb s (from 0 (size sw)) g (from 0 (size gw)) over l ≡ b →
                 ((z : ℕ) → Enters {L = Label} g over z l → ⊥) → bare eqb eqb s (from 0 (size sw)) g (from 0 (size gw)) over l ≡ true
@@ -471,51 +471,51 @@ module _ {n : ℕ} {t gw sw map : List ℕ} (asked : Asked n t gw sw map) where
             not-bare false e z c = e
             not-bare true e z c = absurd (bare-enters operands over l e z c)
 
-            covered : get_or marks k 0 ≡ 1 → Leader s first (targetAt sw k) l → (b : Bool) → apart (targetAt sw k) ≡ b →
-                reasonBy sw marks explained.meeting k ≡ cond (apart (targetAt sw k)) 2 3
+            covered : get_or marks k 0 ≡ 1 → Leader s first (target_at sw k) l → (b : Bool) → apart (target_at sw k) ≡ b →
+                reason_by sw marks explained.meeting k ≡ cond (apart (target_at sw k)) 2 3
             covered mark lead true e =
                 let (x, y, i, j, d) = differ-two operands over any earlier want _ e in
-                reason-two (get_or marks k 0) (get_or explained.meeting (targetAt sw k) 0) (λ q. omega (arith, mark, q))
-                (meets.1 (two-cause (targetAt sw k) x y ((listed (targetAt sw k) x).0 i) ((listed (targetAt sw k) y).0 j) d))
+                reason-two (get_or marks k 0) (get_or explained.meeting (target_at sw k) 0) (λ q. omega (arith, mark, q))
+                (meets.1 (two-cause (target_at sw k) x y ((listed (target_at sw k) x).0 i) ((listed (target_at sw k) y).0 j) d))
                 ∙ sym (ap (λ (b : Bool). cond b 2 3) e)
             covered mark lead false e =
-                reason-three (get_or marks k 0) (get_or explained.meeting (targetAt sw k) 0) (λ q. omega (arith, mark, q))
+                reason-three (get_or marks k 0) (get_or explained.meeting (target_at sw k) 0) (λ q. omega (arith, mark, q))
                 (λ q. cause-apart k l at lead mark (meets.0 q) e)
                 ∙ sym (ap (λ (b : Bool). cond b 2 3) e)
 
-            go : says k l at → reasonBy sw marks explained.meeting k ≡
-                cond (bare eqb eqb s (from 0 (size sw)) g (from 0 (size gw)) over l) 1 (cond (apart (targetAt sw k)) 2 3)
+            go : says k l at → reason_by sw marks explained.meeting k ≡
+                cond (bare eqb eqb s (from 0 (size sw)) g (from 0 (size gw)) over l) 1 (cond (apart (target_at sw k)) 2 3)
             go (follows-it e x) = absurd (d e)
             go (leads-covered e x z c) =
-                covered e x (apart (targetAt sw k)) refl
-                ∙ sym (ap (λ (b : Bool). cond b 1 (cond (apart (targetAt sw k)) 2 3)) (not-bare _ refl z c))
+                covered e x (apart (target_at sw k)) refl
+                ∙ sym (ap (λ (b : Bool). cond b 1 (cond (apart (target_at sw k)) 2 3)) (not-bare _ refl z c))
             go (leads_bare e x c) =
-                reason-one (get_or marks k 0) (get_or explained.meeting (targetAt sw k) 0) e
-                ∙ sym (ap (λ (b : Bool). cond b 1 (cond (apart (targetAt sw k)) 2 3)) (is-bare _ refl c))
+                reason-one (get_or marks k 0) (get_or explained.meeting (target_at sw k) 0) e
+                ∙ sym (ap (λ (b : Bool). cond b 1 (cond (apart (target_at sw k)) 2 3)) (is-bare _ refl c))
 
-        reason-is : (v i : ℕ) → Place ws v i → get_or reasons i 0 ≡ reason (v, featureAt ws i) (targetAt ws i)
+        reason-is : (v i : ℕ) → Place ws v i → get_or reasons i 0 ≡ reason (v, feature_at ws i) (target_at ws i)
         reason-is v i p =
             let (k, place, stays, c) = rows.1.each v i (omega (arith, p.inside, rows.1.sized)) p.low p.high in
             explained.each v i k p place c
-            ∙ reason-by k (v, featureAt sw k) (at_row v k place) stays.leads
+            ∙ reason-by k (v, feature_at sw k) (at_row v k place) stays.leads
             ∙ ap (λ (w : ℕ). reason (v, w / scale) (w % scale)) (sym c)
 
-        pub result-reasons : reasonsAlong earlier n t (rows_of sw) (rows_of gw) (λ y. get_or map y 0) ≡
-            marksAlong ws reasons (writtenOrder eqb result)
-        unfolding reasonsAlong differenceAlong wantedAlong
+        pub result-reasons : reasons_along earlier n t (rows_of sw) (rows_of gw) (λ y. get_or map y 0) ≡
+            marks_along ws reasons (written_order eqb result)
+        unfolding reasons_along difference_along wanted_along
         result-reasons =
             ap₂ (λ (a b : ℕ).
-            alongLinks (difference (tableLabels n t) eqb eqb earlier s (from 0 a) g (from 0 b) over
-            (λ v. Option.get_or (wantedLabel n t (s.label v) (meetOver (tableLabels n t) eqb g (from 0 b) over v)) no_label))
-            (reasonAt eqb eqb s (from 0 a) g (from 0 b) over earlier)
-            (writtenOrder eqb (difference (tableLabels n t) eqb eqb earlier s (from 0 a) g (from 0 b) over
-            (λ v. Option.get_or (wantedLabel n t (s.label v) (meetOver (tableLabels n t) eqb g (from 0 b) over v)) no_label))))
+            along_links (difference (table_labels n t) eqb eqb earlier s (from 0 a) g (from 0 b) over
+            (λ v. Option.get_or (wanted_label n t (s.label v) (meet_over (table_labels n t) eqb g (from 0 b) over v)) no_label))
+            (reason_at eqb eqb s (from 0 a) g (from 0 b) over earlier)
+            (written_order eqb (difference (table_labels n t) eqb eqb earlier s (from 0 a) g (from 0 b) over
+            (λ v. Option.get_or (wanted_label n t (s.label v) (meet_over (table_labels n t) eqb g (from 0 b) over v)) no_label))))
             (length-rows sw 0 (size sw)) (length-rows gw 0 (size gw))
             ∙ along-same (Reached s) made result reason links-alike order
-            ∙ marks-tell sound' reason reasons (omega (arith, rows.1.long, explained.long, asked.short)) reason-is (writtenOrder eqb result)
+            ∙ marks-tell sound' reason reasons (omega (arith, rows.1.long, explained.long, asked.short)) reason-is (written_order eqb result)
             (λ v m. inside' v (reached-inside s-sound v (pointwise-listed order v m)))
           where
-            order : Pointwise (λ x y. Reached s x × (x ≡ y)) (writtenOrder eqb made) (writtenOrder eqb result)
+            order : Pointwise (λ x y. Reached s x × (x ≡ y)) (written_order eqb made) (written_order eqb result)
             order = bisimilar-order eqb eqb tells-eqb tells-eqb (λ x y. Reached s x × (x ≡ y)) made result made_alike
 
 -- The rows that are made.
@@ -531,7 +531,7 @@ module _ {earlier : Link ℕ → Link ℕ → Bool} {n : ℕ} {t gw sw map marks
   made-sound =
       rows-sound made-markable (λ v h. known_more (omega (arith, few-types)) ((wants-known given.asked given.wants).known v h)) made.rows
 
-  pub made-canonical : canonical eqb (differenceAlong earlier n t (rows_of sw) (rows_of gw) (λ y. get_or map y 0)) ≡ canonical eqb (graphIn words)
+  pub made-canonical : canonical eqb (difference_along earlier n t (rows_of sw) (rows_of gw) (λ y. get_or map y 0)) ≡ canonical eqb (graph_in words)
   made-canonical =
       result-canonical given.asked given.strict given.marked given.wants made.kept made-markable few-types made.rows
 
@@ -548,6 +548,6 @@ module _ {earlier : Link ℕ → Link ℕ → Bool} {n : ℕ} {t gw sw map marks
       }
 
   pub made-reasons : {reasons : List ℕ} → Explains sw marks words reasons →
-      reasonsAlong earlier n t (rows_of sw) (rows_of gw) (λ y. get_or map y 0) ≡ marksAlong words reasons (writtenOrder eqb (graphIn words))
+      reasons_along earlier n t (rows_of sw) (rows_of gw) (λ y. get_or map y 0) ≡ marks_along words reasons (written_order eqb (graph_in words))
   made-reasons explained =
       result-reasons given.asked given.strict given.marked given.wants made.kept made-markable few-types made.rows explained

@@ -10,10 +10,10 @@ use Rattle.encode.specs.declared.Marked.{Marked}
 use Rattle.encode.specs.declared.Marked.TheVariants as marked
 use Rattle.replies.specs.declared.Reply.{Reply}
 use Rattle.replies.specs.declared.Reply.TheVariants.{NoReasonRoom}
-use Rattle.replies.specs.Reply.{Result, length_of, replyOf}
-use Rattle.link_orders.specs.LinkOrders.{earlierBy}
+use Rattle.replies.specs.Reply.{Result, length_of, reply_of}
+use Rattle.link_orders.specs.LinkOrders.{earlier_by}
 use Rattle.difference.specs.declared.Options.{Options}
-use Rattle.difference.specs.Promise.{reasonsAlong}
+use Rattle.difference.specs.Promise.{reasons_along}
 use Rattle.difference.specs.Difference.{over, differed}
 
 -- a reply and the two outputs beside it
@@ -23,39 +23,39 @@ pub record Explained : Type 0 where
   pub reasons : List ℕ
 
 -- This reply and these two outputs, as one.
-abbrev pub explainedResult : Reply → List ℕ → List ℕ → Explained
-explainedResult reply output reasons = record { reply = reply; output = output; reasons = reasons }
+abbrev pub explained_result : Reply → List ℕ → List ℕ → Explained
+explained_result reply output reasons = record { reply = reply; output = output; reasons = reasons }
 
 -- "Beside the record, one byte for each of its links .., further bytes unchanged". "Too few bytes lent for the reasons gives 22, after 8, with
 -- both buffers unchanged." `plain` is the result without reasons. A plain reply without a length is a refusal: it stays, and both outputs are
 -- unchanged.
-abbrev pub lengthWithReasons : Option ℕ → Result → List ℕ → List ℕ → List ℕ → Explained
-lengthWithReasons none plain reasons out old = explainedResult plain.reply out old
-lengthWithReasons (some l) plain reasons out old =
+abbrev pub length_with_reasons : Option ℕ → Result → List ℕ → List ℕ → List ℕ → Explained
+length_with_reasons none plain reasons out old = explained_result plain.reply out old
+length_with_reasons (some l) plain reasons out old =
     cond (leb (length reasons) (length old))
-    (explainedResult plain.reply plain.output (reasons ++ drop (length reasons) old))
-    (explainedResult NoReasonRoom out old)
+    (explained_result plain.reply plain.output (reasons ++ drop (length reasons) old))
+    (explained_result NoReasonRoom out old)
 
 -- the result `plain` with the reasons beside it
-abbrev pub withReasons : Result → List ℕ → List ℕ → List ℕ → Explained
-withReasons plain reasons out old = lengthWithReasons (length_of plain.reply) plain reasons out old
+abbrev pub with_reasons : Result → List ℕ → List ℕ → List ℕ → Explained
+with_reasons plain reasons out old = length_with_reasons (length_of plain.reply) plain reasons out old
 
 -- the reasons for the links of the difference of g and s by an order of links, in record order
-abbrev pub reasonsRows : (Link ℕ → Link ℕ → Bool) → ℕ → List ℕ → List (Row Label) → List (Row Label) → List ℕ
-reasonsRows earlier n t g s = reasonsAlong earlier n t s g (over s g)
+abbrev pub reasons_rows : (Link ℕ → Link ℕ → Bool) → ℕ → List ℕ → List (Row Label) → List (Row Label) → List ℕ
+reasons_rows earlier n t g s = reasons_along earlier n t s g (over s g)
 
 -- If the reasons are asked for, they stand beside the plain result; else the output for reasons is unchanged.
-abbrev pub withReasonsIf : Bool → Result → List ℕ → List ℕ → List ℕ → Explained
-withReasonsIf true plain reasons out old = withReasons plain reasons out old
-withReasonsIf false plain reasons out old = explainedResult plain.reply plain.output old
+abbrev pub with_reasons_if : Bool → Result → List ℕ → List ℕ → List ℕ → Explained
+with_reasons_if true plain reasons out old = with_reasons plain reasons out old
+with_reasons_if false plain reasons out old = explained_result plain.reply plain.output old
 
 -- The difference of two graphs in words, by the options of a call.
-abbrev pub differedWords : Options → ℕ → List ℕ → List ℕ → List ℕ → List ℕ → List ℕ → Explained
-differedWords options n t g s out old =
-    withReasonsIf options.explained (differed (earlierBy options.order) n t out (rows_of g) (rows_of s))
-    (reasonsRows (earlierBy options.order) n t (rows_of g) (rows_of s)) out old
+abbrev pub differed_words : Options → ℕ → List ℕ → List ℕ → List ℕ → List ℕ → List ℕ → Explained
+differed_words options n t g s out old =
+    with_reasons_if options.explained (differed (earlier_by options.order) n t out (rows_of g) (rows_of s))
+    (reasons_rows (earlier_by options.order) n t (rows_of g) (rows_of s)) out old
 
 -- The reply that tells the answer of writing with marks.
-abbrev pub markedReply : Marked → Reply
-markedReply (marked.Written w) = replyOf w
-markedReply marked.NoMarkRoom = NoReasonRoom
+abbrev pub marked_reply : Marked → Reply
+marked_reply (marked.Written w) = reply_of w
+marked_reply marked.NoMarkRoom = NoReasonRoom

@@ -9,7 +9,7 @@ ghost use Rattle.keeping.specs.Keeping.{Markable};
 ghost use Rattle.reasons.specs.Explaining.{Copied, Made};
 ghost use Rattle.difference.specs.Prepared.{Preparable};
 ghost use Rattle.difference.specs.Comparable.{Comparable};
-ghost use Rattle.difference.specs.Explained.{differedWords, explainedResult, markedReply};
+ghost use Rattle.difference.specs.Explained.{differed_words, explained_result, marked_reply};
 ghost use Rattle.difference.specs.Writing.{WritesRows};
 
 use encode::Marked;
@@ -36,8 +36,8 @@ pub fn difference<'a>(
     reasons: &mut [u8],
 ) -> Reply
     requires { Comparable n table.now g.old s.now × Fitting options.order × (length g.old ≡ length s.now) }
-    ensures { explainedResult result out.new reasons.new ≡
-        differedWords options n table.now g.old s.now out.old reasons.old }
+    ensures { explained_result result out.new reasons.new ≡
+        differed_words options n table.now g.old s.now out.old reasons.old }
 {
     let words = s.len();
     if words <= layout::SHORT {
@@ -61,8 +61,8 @@ fn difference_in<'a>(
 ) -> Reply
     requires comparable { Comparable n table.now g.old s.now × Fitting options.order }
     requires g_len { (length g.old ≡ length s.now) × (length marks.old ≡ length s.now) }
-    ensures { explainedResult result out.new reasons.new ≡
-        differedWords options n table.now g.old s.now out.old reasons.old }
+    ensures { explained_result result out.new reasons.new ≡
+        differed_words options n table.now g.old s.now out.old reasons.old }
 {
     let ordered = subsume::subsume(table, s, g);
     let below = ordered.order;
@@ -107,7 +107,7 @@ fn write_rows<'a>(
 ) -> Reply
     requires { ((meeting : List ℕ) → length meeting ≡ 255 → Markable s.now marks.now meeting) × Copied s.now words.now }
     ensures { WritesRows explained s.now marks.now words.now out.old reasons.old
-        (explainedResult result out.new reasons.new) }
+        (explained_result result out.new reasons.new) }
 {
     if !explained {
         return replies::reply_of(encode::canonical::write(words, out));
@@ -119,7 +119,7 @@ fn write_rows<'a>(
 
 // The reply that tells the answer of writing with reasons.
 fn marked_reply(marked: Marked) -> Reply
-    ensures { result ≡ markedReply marked }
+    ensures { result ≡ marked_reply marked }
 {
     match marked {
         Marked::Written(written) => replies::reply_of(written),

@@ -11,7 +11,7 @@ use native.Mathlib.Decide.{ℕ_discrete}
 use native.Mathlib.Omega.{arith}
 use borrow.Author.Tests.{eqb-true}
 use lib.Dec.{eqb}
-use Rattle.graphs.specs.Rows.{from, target, linksOf, addLink}
+use Rattle.graphs.specs.Rows.{from, target, links_of, add_link}
 use Rattle.graphs.specs.Large.{Ascending}
 use Rattle.encoder.proofs.FeatureMap.{Within, target-absent, target_first, target-later}
 
@@ -42,35 +42,35 @@ module _ (name : ℕ → ℕ) where
   next links f = Option.map name (target links f)
 
   -- features past a link do not see it
-  linksOf-later : (l : ℕ × ℕ) (ls : List (ℕ × ℕ)) (f k : ℕ) → l.0 < f → linksOf (next (l ∷ ls)) (from f k) ≡ linksOf (next ls) (from f k)
-  unfolding linksOf from
-  linksOf-later l ls f zero h = refl
-  linksOf-later l ls f (suc k) h =
-      ap₂ (λ (o : Option ℕ) (ms : List (ℕ × ℕ)). addLink f (Option.map name o) ms) (target-later f l ls (λ (e : l.0 ≡ f). omega arith))
-      (linksOf-later l ls (suc f) k (omega arith))
+  links_of-later : (l : ℕ × ℕ) (ls : List (ℕ × ℕ)) (f k : ℕ) → l.0 < f → links_of (next (l ∷ ls)) (from f k) ≡ links_of (next ls) (from f k)
+  unfolding links_of from
+  links_of-later l ls f zero h = refl
+  links_of-later l ls f (suc k) h =
+      ap₂ (λ (o : Option ℕ) (ms : List (ℕ × ℕ)). add_link f (Option.map name o) ms) (target-later f l ls (λ (e : l.0 ≡ f). omega arith))
+      (links_of-later l ls (suc f) k (omega arith))
 
-  pub linksOf-links : (links : List (ℕ × ℕ)) (f k : ℕ) → Ascending links → Within f k links →
-      linksOf (next links) (from f k) ≡ renamed links
-  unfolding linksOf from target
-  linksOf-links [] f zero up inside = refl
-  linksOf-links (l ∷ ls) f zero up inside = absurd (omega (arith, inside l (Memᴰ.head refl)))
-  linksOf-links [] f (suc k) up inside = linksOf-links [] (suc f) k tt (λ l m. absurd (Memᴰ.not-nil m))
-  linksOf-links (l ∷ ls) f (suc k) up inside =
-      go (ℕ_discrete l.0 f) (linksOf-links ls (suc f) k up.1) (linksOf-links (l ∷ ls) (suc f) k up)
+  pub links_of-links : (links : List (ℕ × ℕ)) (f k : ℕ) → Ascending links → Within f k links →
+      links_of (next links) (from f k) ≡ renamed links
+  unfolding links_of from target
+  links_of-links [] f zero up inside = refl
+  links_of-links (l ∷ ls) f zero up inside = absurd (omega (arith, inside l (Memᴰ.head refl)))
+  links_of-links [] f (suc k) up inside = links_of-links [] (suc f) k tt (λ l m. absurd (Memᴰ.not-nil m))
+  links_of-links (l ∷ ls) f (suc k) up inside =
+      go (ℕ_discrete l.0 f) (links_of-links ls (suc f) k up.1) (links_of-links (l ∷ ls) (suc f) k up)
     where
       After : List (ℕ × ℕ) → Type 0
-      After ms = Within (suc f) k ms → linksOf (next ms) (from (suc f) k) ≡ renamed ms
+      After ms = Within (suc f) k ms → links_of (next ms) (from (suc f) k) ≡ renamed ms
 
       go : Dec (l.0 ≡ f) → After ls → After (l ∷ ls) →
-          addLink f (next (l ∷ ls) f) (linksOf (next (l ∷ ls)) (from (suc f) k)) ≡ renamed (l ∷ ls)
+          add_link f (next (l ∷ ls) f) (links_of (next (l ∷ ls)) (from (suc f) k)) ≡ renamed (l ∷ ls)
       go (yes e) rest whole =
-          ap₂ (λ (o : Option ℕ) (ms : List (ℕ × ℕ)). addLink f (Option.map name o) ms) (target_first f l ls e)
-          (linksOf-later l ls (suc f) k (omega arith) ∙ rest (λ m i. omega (arith, up.0 m i, inside m (Memᴰ.tail i))))
+          ap₂ (λ (o : Option ℕ) (ms : List (ℕ × ℕ)). add_link f (Option.map name o) ms) (target_first f l ls e)
+          (links_of-later l ls (suc f) k (omega arith) ∙ rest (λ m i. omega (arith, up.0 m i, inside m (Memᴰ.tail i))))
           ∙ ap (λ (g : ℕ). (g, name l.1) ∷ renamed ls) (sym e)
       go (no d) rest whole =
           let low : f < l.0 = omega (arith, inside l (Memᴰ.head refl)) in
           let above : (m : ℕ × ℕ) → Memᴰ m (l ∷ ls) → f < m.0 =
           λ m i. ⊎_elim (λ (e : m ≡ l). omega (arith, ap (λ (x : ℕ × ℕ). x.0) e)) (λ n. omega (arith, up.0 m n)) (Memᴰ.cases_cons i) in
-          ap (λ (o : Option ℕ). addLink f (Option.map name o) (linksOf (next (l ∷ ls)) (from (suc f) k)))
+          ap (λ (o : Option ℕ). add_link f (Option.map name o) (links_of (next (l ∷ ls)) (from (suc f) k)))
           (target-absent f (l ∷ ls) (λ m i (e : m.0 ≡ f). omega (arith, above m i)))
           ∙ whole (λ m i. omega (arith, above m i, inside m i))

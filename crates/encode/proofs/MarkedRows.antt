@@ -6,11 +6,11 @@ use native.Mathlib.Omega.{arith}
 use native.Mathlib.Numerals.{add-one}
 use lib.ListN.{length, get_or, set, take, length-append, length-set}
 use lib.Seq.{sets, slice, slice_empty, length-slice, length-sets, take-suc, get_or-take, length-take-le}
-use Rattle.layout.specs.Layout.{Sound, size, linksFrom, rowEnd, longest}
+use Rattle.layout.specs.Layout.{Sound, size, links_from, row_end, longest}
 use Rattle.layout.proofs.Spans.{slice-more}
-use Rattle.encoder.specs.NumberedRows.{Visited, degree, degrees, sumAlong}
+use Rattle.encoder.specs.NumberedRows.{Visited, degree, degrees, sum_along}
 use Rattle.encoder.proofs.WrittenRows.{sum_more, sum-upto}
-use Rattle.encode.specs.Marks.{marksAlong}
+use Rattle.encode.specs.Marks.{marks_along}
 use Rattle.graphs.proofs.Stores.{sets-append, sets_more}
 
 -- The marks of a row are written for the places before k.
@@ -67,23 +67,23 @@ module _ {marks : List ℕ} {start end at : ℕ} {old : List ℕ} where
 module _ (ws marks : List ℕ) where
   -- there are as many marks as links
   pub marks-length : Sound ws → length ws ≤ longest → length marks ≡ longest → (vs : List ℕ) →
-      ((i : ℕ) → i < length vs → get_or vs i 0 < size ws) → length (marksAlong ws marks vs) ≡ degrees ws vs
-  unfolding marksAlong sumAlong
+      ((i : ℕ) → i < length vs → get_or vs i 0 < size ws) → length (marks_along ws marks vs) ≡ degrees ws vs
+  unfolding marks_along sum_along
   marks-length sound short long [] h = refl
   marks-length sound short long (v ∷ vs) h =
-      length-append (slice (linksFrom ws v) (rowEnd ws v) marks) (marksAlong ws marks vs)
+      length-append (slice (links_from ws v) (row_end ws v) marks) (marks_along ws marks vs)
       ∙ ap₂ (λ (m n : ℕ). m + n)
-      (length-slice (linksFrom ws v) (rowEnd ws v) marks
+      (length-slice (links_from ws v) (row_end ws v) marks
       (omega (arith, (sound.shaped.node v (h 0 (omega arith))).ended)))
       (marks-length sound short long vs (λ i l. h (suc i) (omega arith)))
 
   marks-snoc : (vs : List ℕ) (v : ℕ) →
-      marksAlong ws marks (vs ++ (v ∷ [])) ≡ marksAlong ws marks vs ++ slice (linksFrom ws v) (rowEnd ws v) marks
-  unfolding marksAlong
-  marks-snoc [] v = append-nil (slice (linksFrom ws v) (rowEnd ws v) marks)
+      marks_along ws marks (vs ++ (v ∷ [])) ≡ marks_along ws marks vs ++ slice (links_from ws v) (row_end ws v) marks
+  unfolding marks_along
+  marks-snoc [] v = append-nil (slice (links_from ws v) (row_end ws v) marks)
   marks-snoc (u ∷ us) v =
-      ap (λ (l : List ℕ). slice (linksFrom ws u) (rowEnd ws u) marks ++ l) (marks-snoc us v)
-      ∙ sym (append_assoc (slice (linksFrom ws u) (rowEnd ws u) marks) (marksAlong ws marks us) (slice (linksFrom ws v) (rowEnd ws v) marks))
+      ap (λ (l : List ℕ). slice (links_from ws u) (row_end ws u) marks ++ l) (marks-snoc us v)
+      ∙ sym (append_assoc (slice (links_from ws u) (row_end ws u) marks) (marks_along ws marks us) (slice (links_from ws v) (row_end ws v) marks))
 
   -- The marks are written for the first i nodes of a list.
   pub record MarkProgress (vs : List ℕ) (count : ℕ) (old out : List ℕ) (at i : ℕ) : Type 0 where
@@ -94,11 +94,11 @@ module _ (ws marks : List ℕ) where
     pub high : i ≤ count
     pub at-is : at ≡ degrees ws (take i vs)
     pub length-is : length out ≡ length old
-    pub out-is : out ≡ sets old 0 (marksAlong ws marks (take i vs))
+    pub out-is : out ≡ sets old 0 (marks_along ws marks (take i vs))
 
   pub marks-start : {vs old : List ℕ} {count : ℕ} → Visited ws vs count → length ws ≤ longest → length marks ≡ longest →
       degrees ws (take count vs) ≤ length old → MarkProgress vs count old old 0 0
-  unfolding marksAlong sumAlong
+  unfolding marks_along sum_along
   marks-start v s l r =
       record { visited = v; short = s; long = l; room = r; high = omega arith; at-is = refl; length-is = refl; out-is = refl }
 
@@ -106,7 +106,7 @@ module _ (ws marks : List ℕ) where
     taken : (n : ℕ) → n ≤ count → length (take n vs) ≡ n
     taken n h = length-take-le n vs (omega (arith, p.visited.few, p.visited.long))
 
-    counted : length (marksAlong ws marks (take i vs)) ≡ degrees ws (take i vs)
+    counted : length (marks_along ws marks (take i vs)) ≡ degrees ws (take i vs)
     counted =
         marks-length p.visited.sound p.short p.long (take i vs) λ j h.
         let low : j < i = omega (arith, taken i p.high) in
@@ -130,9 +130,9 @@ module _ (ws marks : List ℕ) where
           omega (arith, p.at-is, p.length-is, p.room, next-is, sum-upto (degree ws) vs (i + 1) count (omega arith))
 
       pub marks-step : {last : List ℕ} {next : ℕ} → (next ≡ at + degree ws v) ×
-          (last ≡ sets out at (slice (linksFrom ws v) (rowEnd ws v) marks)) → MarkProgress vs count old last next (i + 1)
+          (last ≡ sets out at (slice (links_from ws v) (row_end ws v) marks)) → MarkProgress vs count old last next (i + 1)
       marks-step {last} {next} (e, q) =
-          let row : List ℕ = slice (linksFrom ws v) (rowEnd ws v) marks in
+          let row : List ℕ = slice (links_from ws v) (row_end ws v) marks in
           record {
             visited = p.visited;
             short = p.short;
@@ -144,11 +144,11 @@ module _ (ws marks : List ℕ) where
             out-is =
                 q
                 ∙ ap₂ (λ (o : List ℕ) (n : ℕ). sets o n row) p.out-is (omega (arith, p.at-is, counted))
-                ∙ sym (sets-append (marksAlong ws marks (take i vs)) old 0 row)
-                ∙ ap (sets old 0) (sym (ap (marksAlong ws marks) grown ∙ marks-snoc (take i vs) v));
+                ∙ sym (sets-append (marks_along ws marks (take i vs)) old 0 row)
+                ∙ ap (sets old 0) (sym (ap (marks_along ws marks) grown ∙ marks-snoc (take i vs) v));
           }
 
-    pub marks-done : count ≤ i → out ≡ sets old 0 (marksAlong ws marks (take count vs))
+    pub marks-done : count ≤ i → out ≡ sets old 0 (marks_along ws marks (take count vs))
     marks-done h =
         let e : i ≡ count = omega (arith, p.high) in
-        p.out-is ∙ ap (λ (n : ℕ). sets old 0 (marksAlong ws marks (take n vs))) e
+        p.out-is ∙ ap (λ (n : ℕ). sets old 0 (marks_along ws marks (take n vs))) e

@@ -10,13 +10,13 @@ use borrow.Author.Tests.{le-leb, lt-leb}
 use lib.Dec.{leb}
 use lib.ListN.{length, drop}
 use lib.Seq.{sets, sets-eq}
-use Rattle.graphs.specs.Number.{Canonical, manyLinks, manyNodes}
+use Rattle.graphs.specs.Number.{Canonical, many_links, many_nodes}
 use Rattle.lattice.specs.Label.{Label}
 use Rattle.encode.specs.declared.Written.TheVariants as outcome
 use Rattle.encode.specs.declared.Marked.{Marked}
 use Rattle.encode.specs.declared.Marked.TheVariants as marked
-use Rattle.encode.specs.Encode.{Yield, yielding, fitted, writtenOut}
-use Rattle.encode.specs.Marks.{Noted, noting, fittedBoth, markedOut}
+use Rattle.encode.specs.Encode.{Yield, yielding, fitted, written_out}
+use Rattle.encode.specs.Marks.{Noted, noting, fitted_both, marked_out}
 
 -- an output that is equal to the one that is yielded is as good
 pub yields-by : {A : Type 0} {y : Yield A} {a : A} {l last : List ℕ} → last ≡ l → y ≡ yielding a l → yielding a last ≡ y
@@ -27,18 +27,18 @@ notes-by {a = a} p q e = ap₂ (noting a) p q ∙ sym e
 
 -- What is too large.
 
-module _ {form : Canonical Label} (large : (form ≡ manyNodes) ⊎ (form ≡ manyLinks)) where
-  pub large-written : (old : List ℕ) → writtenOut form old ≡ yielding outcome.TooLarge old
-  unfolding writtenOut
+module _ {form : Canonical Label} (large : (form ≡ many_nodes) ⊎ (form ≡ many_links)) where
+  pub large-written : (old : List ℕ) → written_out form old ≡ yielding outcome.TooLarge old
+  unfolding written_out
   large-written old =
-      ⊎_elim (λ (e : form ≡ manyNodes). ap (λ (c : Canonical Label). writtenOut c old) e)
-      (λ (e : form ≡ manyLinks). ap (λ (c : Canonical Label). writtenOut c old) e) large
+      ⊎_elim (λ (e : form ≡ many_nodes). ap (λ (c : Canonical Label). written_out c old) e)
+      (λ (e : form ≡ many_links). ap (λ (c : Canonical Label). written_out c old) e) large
 
-  pub large-marked : (marks old beside : List ℕ) → markedOut form marks old beside ≡ noting (marked.Written outcome.TooLarge) old beside
-  unfolding markedOut
+  pub large-marked : (marks old beside : List ℕ) → marked_out form marks old beside ≡ noting (marked.Written outcome.TooLarge) old beside
+  unfolding marked_out
   large-marked marks old beside =
-      ⊎_elim (λ (e : form ≡ manyNodes). ap (λ (c : Canonical Label). markedOut c marks old beside) e)
-      (λ (e : form ≡ manyLinks). ap (λ (c : Canonical Label). markedOut c marks old beside) e) large
+      ⊎_elim (λ (e : form ≡ many_nodes). ap (λ (c : Canonical Label). marked_out c marks old beside) e)
+      (λ (e : form ≡ many_links). ap (λ (c : Canonical Label). marked_out c marks old beside) e) large
 
 -- What fits.
 
@@ -78,18 +78,18 @@ module _ (bytes marks old beside : List ℕ) where
       (noting marked.NoMarkRoom old beside))
       (noting (marked.Written outcome.NoRoom) old beside)
 
-  pub both-short : length old < length bytes → fittedBoth bytes marks old beside ≡ noting (marked.Written outcome.NoRoom) old beside
-  unfolding fittedBoth tested
+  pub both-short : length old < length bytes → fitted_both bytes marks old beside ≡ noting (marked.Written outcome.NoRoom) old beside
+  unfolding fitted_both tested
   both-short h = ap (λ (t : Bool). tested t (leb (length marks) (length beside))) (lt-leb (length bytes) (length old) h)
 
   module _ (room : length bytes ≤ length old) where
-    pub both-narrow : length beside < length marks → fittedBoth bytes marks old beside ≡ noting marked.NoMarkRoom old beside
-    unfolding fittedBoth tested
+    pub both-narrow : length beside < length marks → fitted_both bytes marks old beside ≡ noting marked.NoMarkRoom old beside
+    unfolding fitted_both tested
     both-narrow h = ap₂ tested (le-leb (length bytes) (length old) room) (lt-leb (length marks) (length beside) h)
 
     pub both-room : length marks ≤ length beside →
-        fittedBoth bytes marks old beside ≡ noting (marked.Written (outcome.Length (length bytes))) (sets old 0 bytes) (sets beside 0 marks)
-    unfolding fittedBoth tested
+        fitted_both bytes marks old beside ≡ noting (marked.Written (outcome.Length (length bytes))) (sets old 0 bytes) (sets beside 0 marks)
+    unfolding fitted_both tested
     both-room h =
         ap₂ tested (le-leb (length bytes) (length old) room) (le-leb (length marks) (length beside) h)
         ∙ ap₂ (λ (o b : List ℕ). noting (marked.Written (outcome.Length (length bytes))) o b) (stored bytes old room)

@@ -10,26 +10,26 @@ use lib.ListN.{length, length-append}
 use Rattle.graphs.specs.Large.{Distinct}
 use Rattle.graphs.specs.Rows.{from}
 use Rattle.graphs.proofs.Lists.{distinct_append, distinct-bound, distinct_from, from_member, from-range, length_from}
-use Rattle.layout.specs.Layout.{Shaped, header, size, rowFrom, rowEnd, rowsEnd}
+use Rattle.layout.specs.Layout.{Shaped, header, size, row_from, row_end, rows_end}
 use Rattle.layout.proofs.Order.{earlier-row, row_last, row_low, rows_inside}
-use Rattle.encoder.specs.NumberedRows.{degrees, sumAlong}
+use Rattle.encoder.specs.NumberedRows.{degrees, sum_along}
 
 -- the places of the rows of the nodes of a list
-rowPlaces : List ℕ → List ℕ → List ℕ
-rowPlaces ws [] = []
-rowPlaces ws (v ∷ vs) = from (rowFrom ws v) (rowEnd ws v - rowFrom ws v) ++ rowPlaces ws vs
+row_places : List ℕ → List ℕ → List ℕ
+row_places ws [] = []
+row_places ws (v ∷ vs) = from (row_from ws v) (row_end ws v - row_from ws v) ++ row_places ws vs
 
-place-source : (ws vs : List ℕ) (k : ℕ) → Memᴰ k (rowPlaces ws vs) → (v : ℕ) × Memᴰ v vs × (rowFrom ws v ≤ k) × (k < rowEnd ws v)
-unfolding rowPlaces
+place-source : (ws vs : List ℕ) (k : ℕ) → Memᴰ k (row_places ws vs) → (v : ℕ) × Memᴰ v vs × (row_from ws v ≤ k) × (k < row_end ws v)
+unfolding row_places
 place-source ws [] k m = absurd (Memᴰ.not-nil m)
 place-source ws (v ∷ vs) k m =
     ⊎_elim
-    (λ n. let (low, high) = from-range (rowFrom ws v) (rowEnd ws v - rowFrom ws v) k n in (v, Memᴰ.head refl, low, omega arith))
+    (λ n. let (low, high) = from-range (row_from ws v) (row_end ws v - row_from ws v) k n in (v, Memᴰ.head refl, low, omega arith))
     (λ n. let (w, i, low, high) = place-source ws vs k n in (w, Memᴰ.tail i, low, high))
-    (Memᴰ.append_cases (from (rowFrom ws v) (rowEnd ws v - rowFrom ws v)) m)
+    (Memᴰ.append_cases (from (row_from ws v) (row_end ws v - row_from ws v)) m)
 
 module _ {ws : List ℕ} (shaped : Shaped ws) where
-  one-node : (a b k : ℕ) → a < size ws → b < size ws → rowFrom ws a ≤ k → k < rowEnd ws a → rowFrom ws b ≤ k → k < rowEnd ws b → a ≡ b
+  one-node : (a b k : ℕ) → a < size ws → b < size ws → row_from ws a ≤ k → k < row_end ws a → row_from ws b ≤ k → k < row_end ws b → a ≡ b
   one-node a b k inside also low high from_low until = go (dec_lt a b) (dec_lt b a)
     where
       go : Dec (a < b) → Dec (b < a) → a ≡ b
@@ -37,27 +37,27 @@ module _ {ws : List ℕ} (shaped : Shaped ws) where
       go (no h) (yes l) = absurd (omega (arith, earlier-row shaped b a k l (omega arith) until))
       go (no h) (no l) = omega arith
 
-  places-distinct : (vs : List ℕ) → Distinct vs → ((v : ℕ) → Memᴰ v vs → v < size ws) → Distinct (rowPlaces ws vs)
-  unfolding rowPlaces
+  places-distinct : (vs : List ℕ) → Distinct vs → ((v : ℕ) → Memᴰ v vs → v < size ws) → Distinct (row_places ws vs)
+  unfolding row_places
   places-distinct [] d inside = tt
   places-distinct (v ∷ vs) d inside =
-      distinct_append (from (rowFrom ws v) (rowEnd ws v - rowFrom ws v)) (rowPlaces ws vs)
-      (distinct_from (rowFrom ws v) (rowEnd ws v - rowFrom ws v)) (places-distinct vs d.1 (λ w m. inside w (Memᴰ.tail m)))
+      distinct_append (from (row_from ws v) (row_end ws v - row_from ws v)) (row_places ws vs)
+      (distinct_from (row_from ws v) (row_end ws v - row_from ws v)) (places-distinct vs d.1 (λ w m. inside w (Memᴰ.tail m)))
       (λ k m n.
-      let (low, high) = from-range (rowFrom ws v) (rowEnd ws v - rowFrom ws v) k m in
+      let (low, high) = from-range (row_from ws v) (row_end ws v - row_from ws v) k m in
       let (w, i, from_low, until) = place-source ws vs k n in
       d.0
       (Memᴰ.cast (one-node v w k (inside v (Memᴰ.head refl)) (inside w (Memᴰ.tail i)) low (omega arith) from_low until) i))
 
   places-length : (vs : List ℕ) → ((v : ℕ) → Memᴰ v vs → v < size ws) →
-      length (rowPlaces ws vs) ≡ header * length vs + degrees ws vs
-  unfolding rowPlaces sumAlong
+      length (row_places ws vs) ≡ header * length vs + degrees ws vs
+  unfolding row_places sum_along
   places-length [] inside = refl
   places-length (v ∷ vs) inside =
       omega (
         arith,
-        length-append (from (rowFrom ws v) (rowEnd ws v - rowFrom ws v)) (rowPlaces ws vs),
-        length_from (rowFrom ws v) (rowEnd ws v - rowFrom ws v),
+        length-append (from (row_from ws v) (row_end ws v - row_from ws v)) (row_places ws vs),
+        length_from (row_from ws v) (row_end ws v - row_from ws v),
         (shaped.node v (inside v (Memᴰ.head refl))).begun,
         places-length vs (λ w m. inside w (Memᴰ.tail m)),
       )
@@ -70,16 +70,16 @@ module _ {ws : List ℕ} (shaped : Shaped ws) where
         arith,
         distinct-bound vs (from 0 (size ws)) d (λ v m. from_member 0 (size ws) v (omega arith) (omega (arith, inside v m))),
         length_from 0 (size ws),
-        distinct-bound (rowPlaces ws vs) (from (rowFrom ws 0) (rowsEnd ws - rowFrom ws 0)) (places-distinct vs d inside) within,
-        length_from (rowFrom ws 0) (rowsEnd ws - rowFrom ws 0),
+        distinct-bound (row_places ws vs) (from (row_from ws 0) (rows_end ws - row_from ws 0)) (places-distinct vs d inside) within,
+        length_from (row_from ws 0) (rows_end ws - row_from ws 0),
         places-length vs inside,
         shaped.behind,
         row_low shaped (size ws) (omega arith),
         rows_inside shaped,
       )
     where
-      within : (k : ℕ) → Memᴰ k (rowPlaces ws vs) → Memᴰ k (from (rowFrom ws 0) (rowsEnd ws - rowFrom ws 0))
+      within : (k : ℕ) → Memᴰ k (row_places ws vs) → Memᴰ k (from (row_from ws 0) (rows_end ws - row_from ws 0))
       within k m =
           let (v, n, low, high) = place-source ws vs k m in
-          let first : rowFrom ws 0 ≤ k = omega (arith, row_low shaped v (omega (arith, inside v n))) in
-          from_member (rowFrom ws 0) (rowsEnd ws - rowFrom ws 0) k first (omega (arith, row_last shaped v (inside v n)))
+          let first : row_from ws 0 ≤ k = omega (arith, row_low shaped v (omega (arith, inside v n))) in
+          from_member (row_from ws 0) (rows_end ws - row_from ws 0) k first (omega (arith, row_last shaped v (inside v n)))

@@ -14,37 +14,37 @@ use lib.Dec.{eqb}
 use lib.ListN.{length, get_or, take, length-map, length-reverse, get_or-map}
 use lib.Seq.{sets, slice, slice-cons, slice_empty, ext_get_or, get_or-take, length-take-le}
 use Rattle.graphs.specs.Graph.{Graph}
-use Rattle.graphs.specs.Rows.{Row, from, target, linksOf}
-use Rattle.graphs.specs.Number.{Canonical, canonical, counted, index_of, linkCount, outDegree, manyLinks, manyNodes, row_of, visit, written}
+use Rattle.graphs.specs.Rows.{Row, from, target, links_of}
+use Rattle.graphs.specs.Number.{Canonical, canonical, counted, index_of, link_count, out_degree, many_links, many_nodes, row_of, visit, written}
 use Rattle.graphs.specs.Difference.{Link}
-use Rattle.graphs.specs.Reasons.{alongLinks, order_in, writtenOrder}
+use Rattle.graphs.specs.Reasons.{along_links, order_in, written_order}
 use Rattle.graphs.proofs.Walk.{option-same}
-use Rattle.graphs.proofs.Lists.{mem-reverse, mem-unreverse, getD-index, index-within, tells-eqb, getD-member, map-listed}
-use Rattle.graphs.proofs.Rows.{linksOf-length}
-use Rattle.graphs.proofs.Form.Invariant.{linksOf-cong}
+use Rattle.graphs.proofs.Lists.{mem-reverse, mem-unreverse, get_or-index, index-within, tells-eqb, get_or-member, map-listed}
+use Rattle.graphs.proofs.Rows.{links_of-length}
+use Rattle.graphs.proofs.Form.Invariant.{links_of-cong}
 use Rattle.graphs.proofs.Form.Visited.{Grown, visit-all}
 use Rattle.lattice.specs.Label.{Label, no_label}
-use Rattle.layout.specs.Layout.{Sound, Place, header, longest, size, linksFrom, rowEnd, featureAt, targetAt, linksAt, linksBetween, graphIn}
+use Rattle.layout.specs.Layout.{Sound, Place, header, longest, size, links_from, row_end, feature_at, target_at, links_at, links_between, graph_in}
 use Rattle.layout.proofs.Spans.{link_at, links-at, links-none, links-cons}
 use Rattle.layout.proofs.Rows.{row-at}
 use Rattle.layout.proofs.Places.{link-known, links-are}
-use Rattle.visits.specs.Walks.{Numbers, foundIn}
+use Rattle.visits.specs.Walks.{Numbers, found_in}
 use Rattle.visits.proofs.GraphVisit.{visit-rows}
 use Rattle.encoder.specs.Encode.{encoded}
-use Rattle.encoder.specs.NumberedRows.{Visited, degree, degrees, numberByte, numberedRow, numberedRows, ranges, sumAlong}
+use Rattle.encoder.specs.NumberedRows.{Visited, degree, degrees, number_byte, numbered_row, numbered_rows, ranges, sum_along}
 use Rattle.encoder.proofs.WrittenRows.{ranges-upto, sum-reverse, row-ascending, row-degree, row_within, rows-length}
 use Rattle.encode.specs.declared.Written.TheVariants as outcome
-use Rattle.encode.specs.Encode.{yielding, writtenOut}
-use Rattle.encode.proofs.Links.{linksOf-links, target-member}
+use Rattle.encode.specs.Encode.{yielding, written_out}
+use Rattle.encode.proofs.Links.{links_of-links, target-member}
 use Rattle.encode.proofs.Outcomes.{fitted_short, fitted-room, both-short, both-narrow, both-room}
 use Rattle.encode.specs.declared.Marked.TheVariants as marked
-use Rattle.encode.specs.Marks.{MarksFit, Noted, noting, fittedBoth, marksAlong, markedOut}
+use Rattle.encode.specs.Marks.{MarksFit, Noted, noting, fitted_both, marks_along, marked_out}
 use Rattle.encode.proofs.MarkedRows.{marks-length}
 use Rattle.encode.proofs.RowPlaces.{rows_fit}
 
 module _ {ws : List ℕ} (sound : Sound ws) where
   abbrev g : Graph Label ℕ
-  g = graphIn ws
+  g = graph_in ws
 
   abbrev Inside : ℕ → Type 0
   Inside v = v < size ws
@@ -57,53 +57,53 @@ module _ {ws : List ℕ} (sound : Sound ws) where
 
   -- the links by feature are the row's links, however the targets are named
   row-links : (name : ℕ → ℕ) (v : ℕ) → Inside v →
-      linksOf (λ f. Option.map name (g.link v f)) (from 0 64) ≡ map {B = ℕ × ℕ} (λ l. (l.0, name l.1)) (linksAt ws v)
+      links_of (λ f. Option.map name (g.link v f)) (from 0 64) ≡ map {B = ℕ × ℕ} (λ l. (l.0, name l.1)) (links_at ws v)
   row-links name v h =
-      ap (λ (r : Row Label). linksOf (λ f. Option.map name (target r.1 f)) (from 0 64)) (row-at ws (size ws) 0 v v (no_label, []) (omega arith) h)
-      ∙ linksOf-links name (linksAt ws v) 0 64 (row-ascending sound v h) (row_within sound v h)
+      ap (λ (r : Row Label). links_of (λ f. Option.map name (target r.1 f)) (from 0 64)) (row-at ws (size ws) 0 v v (no_label, []) (omega arith) h)
+      ∙ links_of-links name (links_at ws v) 0 64 (row-ascending sound v h) (row_within sound v h)
 
   -- nodes have as many links as their rows have places for links
-  links-counted : (vs : List ℕ) → ((v : ℕ) → Memᴰ v vs → Inside v) → linkCount g.link vs ≡ degrees ws vs
-  unfolding linkCount sumAlong
+  links-counted : (vs : List ℕ) → ((v : ℕ) → Memᴰ v vs → Inside v) → link_count g.link vs ≡ degrees ws vs
+  unfolding link_count sum_along
   links-counted [] inside = refl
   links-counted (v ∷ vs) inside =
       ap₂ (λ (m n : ℕ). m + n) (one (inside v (mathlib.Core.List.Memᴰ.head refl))) (links-counted vs (λ w m. inside w (mathlib.Core.List.Memᴰ.tail m)))
     where
-      one : Inside v → outDegree g.link v (from 0 64) ≡ degree ws v
+      one : Inside v → out_degree g.link v (from 0 64) ≡ degree ws v
       one h =
-          sym (linksOf-length g.link (λ x. x) v (from 0 64))
+          sym (links_of-length g.link (λ x. x) v (from 0 64))
           ∙ ap length (row-links (λ x. x) v h)
-          ∙ length-map (linksAt ws v) (λ l. (l.0, l.1))
+          ∙ length-map (links_at ws v) (λ l. (l.0, l.1))
           ∙ row-degree sound v h
 
   -- The marks tell a value of each link.
   module _ (value : Link ℕ → ℕ → ℕ) (marks : List ℕ) (enough : length ws ≤ length marks)
-      (tell : (v k : ℕ) → Place ws v k → get_or marks k 0 ≡ value (v, featureAt ws k) (targetAt ws k)) where
-    row-values : (v : ℕ) → Inside v → (n a : ℕ) → linksFrom ws v ≤ a → a + n ≡ rowEnd ws v →
-        map (λ l. value (v, l.0) l.1) (map {B = ℕ × ℕ} (λ l. (l.0, l.1)) (linksBetween ws a (rowEnd ws v))) ≡
-        slice a (rowEnd ws v) marks
+      (tell : (v k : ℕ) → Place ws v k → get_or marks k 0 ≡ value (v, feature_at ws k) (target_at ws k)) where
+    row-values : (v : ℕ) → Inside v → (n a : ℕ) → links_from ws v ≤ a → a + n ≡ row_end ws v →
+        map (λ l. value (v, l.0) l.1) (map {B = ℕ × ℕ} (λ l. (l.0, l.1)) (links_between ws a (row_end ws v))) ≡
+        slice a (row_end ws v) marks
     row-values v h zero a low e =
-        let b : a ≡ rowEnd ws v = omega arith in
-        ap (λ (i : ℕ). map (λ l. value (v, l.0) l.1) (map {B = ℕ × ℕ} (λ l. (l.0, l.1)) (linksBetween ws i (rowEnd ws v)))) b
-        ∙ ap (λ (ls : List (ℕ × ℕ)). map (λ l. value (v, l.0) l.1) (map {B = ℕ × ℕ} (λ l. (l.0, l.1)) ls)) (links-none ws (rowEnd ws v))
-        ∙ sym (ap (λ (i : ℕ). slice i (rowEnd ws v) marks) b ∙ slice_empty (rowEnd ws v) marks)
+        let b : a ≡ row_end ws v = omega arith in
+        ap (λ (i : ℕ). map (λ l. value (v, l.0) l.1) (map {B = ℕ × ℕ} (λ l. (l.0, l.1)) (links_between ws i (row_end ws v)))) b
+        ∙ ap (λ (ls : List (ℕ × ℕ)). map (λ l. value (v, l.0) l.1) (map {B = ℕ × ℕ} (λ l. (l.0, l.1)) ls)) (links-none ws (row_end ws v))
+        ∙ sym (ap (λ (i : ℕ). slice i (row_end ws v) marks) b ∙ slice_empty (row_end ws v) marks)
     row-values v h (suc n) a low e =
         let ended = (sound.shaped.node v h).ended in
         ap (λ (ls : List (ℕ × ℕ)). map (λ l. value (v, l.0) l.1) (map {B = ℕ × ℕ} (λ l. (l.0, l.1)) ls))
-        (links-cons ws (rowEnd ws v) ended a (omega arith))
+        (links-cons ws (row_end ws v) ended a (omega arith))
         ∙ ap₂ (λ (x : ℕ) (xs : List ℕ). x ∷ xs) (sym (tell v a (record { inside = h; low = low; high = omega arith })))
         (row-values v h n (suc a) (omega arith) (omega arith))
-        ∙ sym (slice-cons a (rowEnd ws v) marks 0 (omega arith) (omega (arith, ended)))
+        ∙ sym (slice-cons a (row_end ws v) marks 0 (omega arith) (omega (arith, ended)))
 
     -- the marks of the nodes of a list are the values along their links
-    pub marks-tell : (vs : List ℕ) → ((v : ℕ) → Memᴰ v vs → Inside v) → alongLinks g value vs ≡ marksAlong ws marks vs
-    unfolding alongLinks marksAlong
+    pub marks-tell : (vs : List ℕ) → ((v : ℕ) → Memᴰ v vs → Inside v) → along_links g value vs ≡ marks_along ws marks vs
+    unfolding along_links marks_along
     marks-tell [] inside = refl
     marks-tell (v ∷ vs) inside =
         ap₂ (λ (xs ys : List ℕ). xs ++ ys)
         (ap (λ (ls : List (ℕ × ℕ)). map (λ l. value (v, l.0) l.1) ls)
-        (linksOf-cong (g.link v) (λ f. Option.map (λ x. x) (g.link v f)) (λ f. option-same (g.link v f)) (from 0 64) ∙ row-links (λ x. x) v here)
-        ∙ row-values v here (rowEnd ws v - linksFrom ws v) (linksFrom ws v) (omega arith) (omega (arith, (sound.shaped.node v here).begun)))
+        (links_of-cong (g.link v) (λ f. Option.map (λ x. x) (g.link v f)) (λ f. option-same (g.link v f)) (from 0 64) ∙ row-links (λ x. x) v here)
+        ∙ row-values v here (row_end ws v - links_from ws v) (links_from ws v) (omega arith) (omega (arith, (sound.shaped.node v here).begun)))
         (marks-tell vs (λ w m. inside w (mathlib.Core.List.Memᴰ.tail m)))
       where
         here : Inside v
@@ -114,7 +114,7 @@ module _ {ws : List ℕ} (sound : Sound ws) where
     start = sound.shaped.nonempty
 
     -- the visit, and what it found
-    module _ (seen : List ℕ) (e : foundIn ws ≡ some seen) where
+    module _ (seen : List ℕ) (e : found_in ws ≡ some seen) where
       visited-rows : visit eqb g.link 255 0 [] ≡ some seen
       visited-rows = visit-rows sound 255 0 [] start ∙ e
 
@@ -142,28 +142,28 @@ module _ {ws : List ℕ} (sound : Sound ws) where
       number_is w m =
           let i : ℕ = index_of eqb w (reverse seen) in
           let here : get_or (reverse seen) i 0 ≡ w =
-          sym (get_or-map (λ (x : ℕ). x) (reverse seen) i 0) ∙ getD-index eqb tells-eqb (λ x. x) 0 w (reverse seen) (mem-reverse m) in
+          sym (get_or-map (λ (x : ℕ). x) (reverse seen) i 0) ∙ get_or-index eqb tells-eqb (λ x. x) 0 w (reverse seen) (mem-reverse m) in
           sym (ap (λ (x : ℕ). get_or numbers x 0) (sym here) ∙ numbered.by-node seen e i (place-low w m))
 
       number-low : (w : ℕ) → Memᴰ w seen → get_or numbers w 0 < length seen
       number-low w m = subst (λ (n : ℕ). n < length seen) (number_is w m) (place-low w m)
 
-      number-byte : (w : ℕ) → Memᴰ w seen → index_of eqb w (reverse seen) ≡ numberByte numbers w
+      number-byte : (w : ℕ) → Memᴰ w seen → index_of eqb w (reverse seen) ≡ number_byte numbers w
       number-byte w m = omega (arith, number_is w m, number-low w m, seen-short)
 
-      link-seen : (v : ℕ) → Memᴰ v seen → (l : ℕ × ℕ) → Memᴰ l (linksAt ws v) → Memᴰ l.1 seen
+      link-seen : (v : ℕ) → Memᴰ v seen → (l : ℕ × ℕ) → Memᴰ l (links_at ws v) → Memᴰ l.1 seen
       link-seen v m l n =
           let h : Inside v = seen-inside v m in
-          grown.closed v (mem-new v m) l.0 l.1 (links-are ws v l.0 h ∙ target-member (linksAt ws v) l (row-ascending sound v h) n)
+          grown.closed v (mem-new v m) l.0 l.1 (links-are ws v l.0 h ∙ target-member (links_at ws v) l (row-ascending sound v h) n)
 
-      row_is : (v : ℕ) → Memᴰ v seen → row_of eqb g (reverse seen) v ≡ numberedRow ws numbers v
-      unfolding row_of numberedRow
+      row_is : (v : ℕ) → Memᴰ v seen → row_of eqb g (reverse seen) v ≡ numbered_row ws numbers v
+      unfolding row_of numbered_row
       row_is v m =
           let h : Inside v = seen-inside v m in
           ap₂ {C = Row Label} (λ (x : Label) (ls : List (ℕ × ℕ)). (x, ls))
           (ap (λ (r : Row Label). r.0) (row-at ws (size ws) 0 v v (no_label, []) (omega arith) h))
           (row-links (λ x. index_of eqb x (reverse seen)) v h
-          ∙ map-listed (linksAt ws v) (λ l n. ap {B = ℕ × ℕ} (λ (x : ℕ). (l.0, x)) (number-byte l.1 (link-seen v m l n))))
+          ∙ map-listed (links_at ws v) (λ l n. ap {B = ℕ × ℕ} (λ (x : ℕ). (l.0, x)) (number-byte l.1 (link-seen v m l n))))
 
       counted_is : count ≡ length seen
       counted_is = numbered.counted seen e
@@ -172,50 +172,50 @@ module _ {ws : List ℕ} (sound : Sound ws) where
       visited-is =
           let n : length (take count visited) ≡ count = length-take-le count visited (omega (arith, counted_is, seen-short)) in
           ext_get_or 0 (take count visited) (reverse seen) (n ∙ counted_is ∙ sym (length-reverse seen))
-          (λ i h. get_or-take count visited i 0 (omega (arith, n)) ∙ numbered.by_number seen e i (omega (arith, n, counted_is)))
+          (λ i h. get_or-take count visited i 0 (omega (arith, n)) ∙ numbered.by_number_lem seen e i (omega (arith, n, counted_is)))
 
       visited-seen : (i : ℕ) → i < count → Memᴰ (get_or visited i 0) seen
       visited-seen i h =
           let low : i < length (reverse seen) = omega (arith, counted_is, length-reverse seen) in
-          subst (λ (v : ℕ). Memᴰ v seen) (sym (numbered.by_number seen e i (omega (arith, counted_is))))
-          (mem-unreverse (getD-member (reverse seen) i 0 low))
+          subst (λ (v : ℕ). Memᴰ v seen) (sym (numbered.by_number_lem seen e i (omega (arith, counted_is))))
+          (mem-unreverse (get_or-member (reverse seen) i 0 low))
 
-      rows_are : map (row_of eqb g (reverse seen)) (reverse seen) ≡ numberedRows ws numbers (take count visited)
+      rows_are : map (row_of eqb g (reverse seen)) (reverse seen) ≡ numbered_rows ws numbers (take count visited)
       rows_are =
-          map-listed (reverse seen) (λ v m. row_is v (mem-unreverse m)) ∙ ap (numberedRows ws numbers) (sym visited-is)
+          map-listed (reverse seen) (λ v m. row_is v (mem-unreverse m)) ∙ ap (numbered_rows ws numbers) (sym visited-is)
 
-      links-all : linkCount g.link seen ≡ degrees ws (take count visited)
+      links-all : link_count g.link seen ≡ degrees ws (take count visited)
       links-all = links-counted seen seen-inside ∙ sym (sum-reverse (degree ws) seen) ∙ ap (degrees ws) (sym visited-is)
 
-      seen-links : 2048 < degrees ws (take count visited) → canonical eqb g ≡ manyLinks
+      seen-links : 2048 < degrees ws (take count visited) → canonical eqb g ≡ many_links
       unfolding canonical
       seen-links h =
           ap (counted eqb g) visited-rows
-          ∙ ap (λ (t : Bool). cond t (written (map (row_of eqb g (reverse seen)) (reverse seen))) manyLinks)
-          (lt-leb (linkCount g.link seen) 2048 (omega (arith, links-all)))
+          ∙ ap (λ (t : Bool). cond t (written (map (row_of eqb g (reverse seen)) (reverse seen))) many_links)
+          (lt-leb (link_count g.link seen) 2048 (omega (arith, links-all)))
 
-      seen-written : degrees ws (take count visited) ≤ 2048 → canonical eqb g ≡ written (numberedRows ws numbers (take count visited))
+      seen-written : degrees ws (take count visited) ≤ 2048 → canonical eqb g ≡ written (numbered_rows ws numbers (take count visited))
       unfolding canonical
       seen-written h =
           ap (counted eqb g) visited-rows
-          ∙ ap (λ (t : Bool). cond t (written (map (row_of eqb g (reverse seen)) (reverse seen))) manyLinks)
-          (le-leb (linkCount g.link seen) 2048 (omega (arith, links-all)))
+          ∙ ap (λ (t : Bool). cond t (written (map (row_of eqb g (reverse seen)) (reverse seen))) many_links)
+          (le-leb (link_count g.link seen) 2048 (omega (arith, links-all)))
           ∙ ap (λ (rs : List (Row Label)). written rs) rows_are
 
     -- more than 255 nodes
-    pub too_many : 255 < count → canonical eqb g ≡ manyNodes
+    pub too_many : 255 < count → canonical eqb g ≡ many_nodes
     unfolding canonical
-    too_many h = go (foundIn ws) refl
+    too_many h = go (found_in ws) refl
       where
-        go : (o : Option (List ℕ)) → foundIn ws ≡ o → counted eqb g (visit eqb g.link 255 0 []) ≡ manyNodes
+        go : (o : Option (List ℕ)) → found_in ws ≡ o → counted eqb g (visit eqb g.link 255 0 []) ≡ many_nodes
         go none e = ap (counted eqb g) (visit-rows sound 255 0 [] start ∙ e)
         go (some seen) e = absurd (omega (arith, counted_is seen e, seen-short seen e))
 
     module _ (few : count ≤ 255) where
-      found : (seen : List ℕ) × (foundIn ws ≡ some seen)
-      found = go (foundIn ws) refl
+      found : (seen : List ℕ) × (found_in ws ≡ some seen)
+      found = go (found_in ws) refl
         where
-          go : (o : Option (List ℕ)) → foundIn ws ≡ o → (seen : List ℕ) × (foundIn ws ≡ some seen)
+          go : (o : Option (List ℕ)) → found_in ws ≡ o → (seen : List ℕ) × (found_in ws ≡ some seen)
           go none e = absurd (omega (arith, numbered.full e))
           go (some seen) e = (seen, e)
 
@@ -229,8 +229,8 @@ module _ {ws : List ℕ} (sound : Sound ws) where
           }
 
       -- a link from a node visited leads to one
-      pub visited-closed : (i k : ℕ) → i < count → linksFrom ws (get_or visited i 0) ≤ k → k < rowEnd ws (get_or visited i 0) →
-          get_or numbers (targetAt ws k) 0 < count
+      pub visited-closed : (i k : ℕ) → i < count → links_from ws (get_or visited i 0) ≤ k → k < row_end ws (get_or visited i 0) →
+          get_or numbers (target_at ws k) 0 < count
       visited-closed i k h low high =
           let (seen, e) = found in
           let v : ℕ = get_or visited i 0 in
@@ -239,9 +239,9 @@ module _ {ws : List ℕ} (sound : Sound ws) where
           omega (
             arith,
             counted_is seen e,
-            number-low seen e (targetAt ws k)
+            number-low seen e (target_at ws k)
                 (link-seen seen e v m (link_at ws k)
-                (links-at ws (rowEnd ws v) (sound.shaped.node v inside).ended (rowEnd ws v - linksFrom ws v) (linksFrom ws v)
+                (links-at ws (row_end ws v) (sound.shaped.node v inside).ended (row_end ws v - links_from ws v) (links_from ws v)
                 (omega (arith, (sound.shaped.node v inside).begun)) k low high)),
           )
 
@@ -256,19 +256,19 @@ module _ {ws : List ℕ} (sound : Sound ws) where
             rows_fit sound.shaped seen ((grown seen e).distinct tt) (seen-inside seen e),
           )
 
-      visited-order : writtenOrder eqb g ≡ take count visited
-      unfolding writtenOrder
+      visited-order : written_order eqb g ≡ take count visited
+      unfolding written_order
       visited-order = let (seen, e) = found in ap order_in (visited-rows seen e) ∙ sym (visited-is seen e)
 
       -- more than 2,048 links
-      pub many-links : 2048 < degrees ws (take count visited) → canonical eqb g ≡ manyLinks
+      pub many-links : 2048 < degrees ws (take count visited) → canonical eqb g ≡ many_links
       many-links h = let (seen, e) = found in seen-links seen e h
 
-      pub written-rows : degrees ws (take count visited) ≤ 2048 → canonical eqb g ≡ written (numberedRows ws numbers (take count visited))
+      pub written-rows : degrees ws (take count visited) ≤ 2048 → canonical eqb g ≡ written (numbered_rows ws numbers (take count visited))
       written-rows h = let (seen, e) = found in seen-written seen e h
 
       abbrev rows : List (Row Label)
-      rows = numberedRows ws numbers (take count visited)
+      rows = numbered_rows ws numbers (take count visited)
 
       bytes-length : length (encoded rows) ≡ 1 + 9 * count + 2 * ranges ws (take count visited) + degrees ws (take count visited)
       unfolding encoded
@@ -305,29 +305,29 @@ module _ {ws : List ℕ} (sound : Sound ws) where
 -- What writing a graph that fits yields.
 module _ {ws numbers visited : List ℕ} {count links len : ℕ} (fits : MarksFit ws numbers visited count links len) (old : List ℕ) where
   abbrev rows_written : List (Row Label)
-  rows_written = numberedRows ws numbers (take count visited)
+  rows_written = numbered_rows ws numbers (take count visited)
 
-  pub too_short : length old < len → writtenOut (canonical eqb (graphIn ws)) old ≡ yielding outcome.NoRoom old
-  unfolding writtenOut
+  pub too_short : length old < len → written_out (canonical eqb (graph_in ws)) old ≡ yielding outcome.NoRoom old
+  unfolding written_out
   too_short short =
-      ap (λ (form : Canonical Label). writtenOut form old) fits.form
+      ap (λ (form : Canonical Label). written_out form old) fits.form
       ∙ fitted_short (encoded rows_written) old (omega (arith, fits.length-is))
 
   pub written-whole : len ≤ length old →
-      writtenOut (canonical eqb (graphIn ws)) old ≡ yielding (outcome.Length len) (sets old 0 (encoded rows_written))
-  unfolding writtenOut
+      written_out (canonical eqb (graph_in ws)) old ≡ yielding (outcome.Length len) (sets old 0 (encoded rows_written))
+  unfolding written_out
   written-whole room =
-      ap (λ (form : Canonical Label). writtenOut form old) fits.form
+      ap (λ (form : Canonical Label). written_out form old) fits.form
       ∙ fitted-room (encoded rows_written) old (omega (arith, fits.length-is))
       ∙ ap (λ (n : ℕ). yielding (outcome.Length n) (sets old 0 (encoded rows_written))) fits.length-is
 
   -- with marks beside
   module _ (marks : List ℕ) (short : length ws ≤ longest) (long : length marks ≡ longest) (beside : List ℕ) where
     abbrev noted : Noted
-    noted = markedOut (canonical eqb (graphIn ws)) (marksAlong ws marks (writtenOrder eqb (graphIn ws))) old beside
+    noted = marked_out (canonical eqb (graph_in ws)) (marks_along ws marks (written_order eqb (graph_in ws))) old beside
 
     abbrev marks-written : List ℕ
-    marks-written = marksAlong ws marks (take count visited)
+    marks-written = marks_along ws marks (take count visited)
 
     marks-count : length marks-written ≡ links
     marks-count =
@@ -336,10 +336,10 @@ module _ {ws numbers visited : List ℕ} {count links len : ℕ} (fits : MarksFi
         (λ i h. rw (get_or-take count visited i 0 (omega (arith, n))) (fits.nodes.nodes i (omega (arith, n))))
         ∙ sym fits.links-are
 
-    noted-is : noted ≡ fittedBoth (encoded rows_written) marks-written old beside
-    unfolding markedOut
+    noted-is : noted ≡ fitted_both (encoded rows_written) marks-written old beside
+    unfolding marked_out
     noted-is =
-        ap₂ (λ (form : Canonical Label) (vs : List ℕ). markedOut form (marksAlong ws marks vs) old beside) fits.form fits.order
+        ap₂ (λ (form : Canonical Label) (vs : List ℕ). marked_out form (marks_along ws marks vs) old beside) fits.form fits.order
 
     pub marked-short : length old < len → noted ≡ noting (marked.Written outcome.NoRoom) old beside
     marked-short h = noted-is ∙ both-short (encoded rows_written) marks-written old beside (omega (arith, fits.length-is))

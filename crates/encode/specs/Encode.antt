@@ -1,6 +1,6 @@
 -- This file defines what writing the record of a graph answers, and what it leaves in a lent output.
 use Rattle.std.specs.Prelude.{cond, List, ◌++◌, ℕ, leb, length, drop}
-use Rattle.graphs.specs.Number.{Canonical, manyNodes, manyLinks, written}
+use Rattle.graphs.specs.Number.{Canonical, many_nodes, many_links, written}
 use Rattle.lattice.specs.Label.{Label}
 use Rattle.encoder.specs.Encode.{encoded}
 use Rattle.encode.specs.declared.Written.{Written}
@@ -27,7 +27,7 @@ fitted bytes old =
     (yielding outcome.NoRoom old)
 
 -- "result over 255 nodes or 2,048 links" is 11, and 8 comes after it.
-unfoldable pub writtenOut : Canonical Label → List ℕ → Outcome
-writtenOut manyNodes old = yielding outcome.TooLarge old
-writtenOut manyLinks old = yielding outcome.TooLarge old
-writtenOut (written rows) old = fitted (encoded rows) old
+unfoldable pub written_out : Canonical Label → List ℕ → Outcome
+written_out many_nodes old = yielding outcome.TooLarge old
+written_out many_links old = yielding outcome.TooLarge old
+written_out (written rows) old = fitted (encoded rows) old

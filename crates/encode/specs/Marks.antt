@@ -2,20 +2,20 @@
 -- the list of marks, a mark stands at the place that its link has in the words of the graph.
 use Rattle.std.specs.Prelude.{◌≡◌, Bool, true, false, cond, List, [], ◌∷◌, ◌++◌, ◌⊎◌, ℕ, eqb, leb, length, drop, take}
 use Rattle.std.proofs.Math.Seq.{slice}
-use Rattle.graphs.specs.Number.{Canonical, manyNodes, manyLinks, written, canonical}
-use Rattle.graphs.specs.Reasons.{writtenOrder}
+use Rattle.graphs.specs.Number.{Canonical, many_nodes, many_links, written, canonical}
+use Rattle.graphs.specs.Reasons.{written_order}
 use Rattle.lattice.specs.Label.{Label}
-use Rattle.layout.specs.Layout.{linksFrom, rowEnd, graphIn}
+use Rattle.layout.specs.Layout.{links_from, row_end, graph_in}
 use Rattle.encoder.specs.Encode.{encoded}
-use Rattle.encoder.specs.NumberedRows.{Visited, degrees, numberedRows}
+use Rattle.encoder.specs.NumberedRows.{Visited, degrees, numbered_rows}
 use Rattle.encode.specs.declared.Written.TheVariants as outcome
 use Rattle.encode.specs.declared.Marked.{Marked}
 use Rattle.encode.specs.declared.Marked.TheVariants as marked
 
 -- the marks of the links of the nodes of a list, node after node
-unfoldable pub marksAlong : List ℕ → List ℕ → List ℕ → List ℕ
-marksAlong ws marks [] = []
-marksAlong ws marks (v ∷ vs) = slice (linksFrom ws v) (rowEnd ws v) marks ++ marksAlong ws marks vs
+unfoldable pub marks_along : List ℕ → List ℕ → List ℕ → List ℕ
+marks_along ws marks [] = []
+marks_along ws marks (v ∷ vs) = slice (links_from ws v) (row_end ws v) marks ++ marks_along ws marks vs
 
 -- What writing with marks yields: its answer, and what the two outputs hold at the end.
 pub record Noted : Type 0 where
@@ -28,8 +28,8 @@ abbrev pub noting : Marked → List ℕ → List ℕ → Noted
 noting answer output beside = record { answer = answer; output = output; beside = beside }
 
 -- Record and marks are written where both fit. A record that does not fit is 8; marks that do not fit come after it.
-unfoldable pub fittedBoth : List ℕ → List ℕ → List ℕ → List ℕ → Noted
-fittedBoth bytes marks old beside =
+unfoldable pub fitted_both : List ℕ → List ℕ → List ℕ → List ℕ → Noted
+fitted_both bytes marks old beside =
     cond (leb (length bytes) (length old))
     (cond (leb (length marks) (length beside))
     (noting (marked.Written (outcome.Length (length bytes))) (bytes ++ drop (length bytes) old) (marks ++ drop (length marks) beside))
@@ -37,20 +37,20 @@ fittedBoth bytes marks old beside =
     (noting (marked.Written outcome.NoRoom) old beside)
 
 -- What writing with marks yields: the checks run in the order 11, 8, then the room for the marks.
-unfoldable pub markedOut : Canonical Label → List ℕ → List ℕ → List ℕ → Noted
-markedOut manyNodes marks old beside = noting (marked.Written outcome.TooLarge) old beside
-markedOut manyLinks marks old beside = noting (marked.Written outcome.TooLarge) old beside
-markedOut (written rows) marks old beside = fittedBoth (encoded rows) marks old beside
+unfoldable pub marked_out : Canonical Label → List ℕ → List ℕ → List ℕ → Noted
+marked_out many_nodes marks old beside = noting (marked.Written outcome.TooLarge) old beside
+marked_out many_links marks old beside = noting (marked.Written outcome.TooLarge) old beside
+marked_out (written rows) marks old beside = fitted_both (encoded rows) marks old beside
 
 -- The numbering of a graph that can be written, with the number of its links and the length of its record.
 pub record MarksFit (ws numbers visited : List ℕ) (count links len : ℕ) : Type 0 where
   pub nodes : Visited ws visited count
-  pub form : canonical eqb (graphIn ws) ≡ written (numberedRows ws numbers (take count visited))
-  pub order : writtenOrder eqb (graphIn ws) ≡ take count visited
+  pub form : canonical eqb (graph_in ws) ≡ written (numbered_rows ws numbers (take count visited))
+  pub order : written_order eqb (graph_in ws) ≡ take count visited
   pub links-are : links ≡ degrees ws (take count visited)
-  pub length-is : length (encoded (numberedRows ws numbers (take count visited))) ≡ len
+  pub length-is : length (encoded (numbered_rows ws numbers (take count visited))) ≡ len
 
 -- The answer tells whether a graph is too large to be written; if not, the arrays have its numbering.
 pub record Measured (ws numbers visited : List ℕ) (large : Bool) (count links len : ℕ) : Type 0 where
-  pub refused : large ≡ true → (canonical eqb (graphIn ws) ≡ manyNodes) ⊎ (canonical eqb (graphIn ws) ≡ manyLinks)
+  pub refused : large ≡ true → (canonical eqb (graph_in ws) ≡ many_nodes) ⊎ (canonical eqb (graph_in ws) ≡ many_links)
   pub fits : large ≡ false → MarksFit ws numbers visited count links len

@@ -3,10 +3,10 @@
 
 ghost use Rattle.std.specs.Prelude.{◌≡◌, ◌≤◌, eqb, length};
 ghost use Rattle.graphs.specs.Number.{canonical};
-ghost use Rattle.graphs.specs.Reasons.{writtenOrder};
-ghost use Rattle.layout.specs.Layout.{Sound, graphIn, longest};
-ghost use Rattle.encode.specs.Encode.{yielding, writtenOut};
-ghost use Rattle.encode.specs.Marks.{Measured, marksAlong, markedOut, noting};
+ghost use Rattle.graphs.specs.Reasons.{written_order};
+ghost use Rattle.layout.specs.Layout.{Sound, graph_in, longest};
+ghost use Rattle.encode.specs.Encode.{yielding, written_out};
+ghost use Rattle.encode.specs.Marks.{Measured, marks_along, marked_out, noting};
 
 use crate::{Marked, Written, marks};
 
@@ -55,7 +55,7 @@ fn measure(graph: &[u16], numbers: &mut [u16; 510], visited: &mut [u16; 255]) ->
 // Writes a graph as its written record.
 pub fn write(graph: &[u16], out: &mut [u8]) -> Written
     requires { Sound graph.now }
-    ensures { yielding result out.new ≡ writtenOut (canonical eqb (graphIn graph.now)) out.old }
+    ensures { yielding result out.new ≡ written_out (canonical eqb (graph_in graph.now)) out.old }
 {
     let mut numbers = [0u16; 510];
     let mut visited = [0u16; 255];
@@ -81,8 +81,8 @@ pub fn write_marked<'a>(
     requires sound { Sound graph.now }
     requires graph_len_bound { (length graph.now ≤ longest) × (length marks.now ≡ longest) }
     ensures { noting result out.new beside.new ≡
-        markedOut (canonical eqb (graphIn graph.now))
-        (marksAlong graph.now marks.now (writtenOrder eqb (graphIn graph.now))) out.old beside.old }
+        marked_out (canonical eqb (graph_in graph.now))
+        (marks_along graph.now marks.now (written_order eqb (graph_in graph.now))) out.old beside.old }
 {
     let mut numbers = [0u16; 510];
     let mut visited = [0u16; 255];

@@ -3,9 +3,9 @@
 ghost use Rattle.std.specs.Prelude.{◌≡◌, ◌+◌, ◌≤◌, ◌<◌, length, take};
 ghost use Rattle.std.proofs.lemmas.List.Edits.{sets};
 ghost use Rattle.std.proofs.Math.Seq.{slice};
-ghost use Rattle.layout.specs.Layout.{Sound, linksFrom, longest, rowEnd, size};
+ghost use Rattle.layout.specs.Layout.{Sound, links_from, longest, row_end, size};
 ghost use Rattle.encoder.specs.NumberedRows.{Visited, degree, degrees};
-ghost use Rattle.encode.specs.Marks.{marksAlong};
+ghost use Rattle.encode.specs.Marks.{marks_along};
 
 // Writes the marks of the links of node v from a place on. Answers the next place.
 fn put_row<'a>(
@@ -19,7 +19,7 @@ fn put_row<'a>(
     requires graph_len_bound { (length graph.now ≤ longest) × (length marks.now ≡ longest) }
     requires v_in_bounds { at + degree graph.now v ≤ length beside.old }
     ensures value { result ≡ at + degree graph.now v }
-    ensures beside_after { beside.new ≡ sets beside.old at (slice (linksFrom graph.now v) (rowEnd graph.now v) marks.now) }
+    ensures beside_after { beside.new ≡ sets beside.old at (slice (links_from graph.now v) (row_end graph.now v) marks.now) }
 {
     let end = graph[v + 2] as usize;
     let mut k = graph[v + 1] as usize + layout::HEADER;
@@ -43,7 +43,7 @@ pub fn put_marks<'a>(
     requires visited { Visited graph.now visited.now count }
     requires graph_len_bound { (length graph.now ≤ longest) × (length marks.now ≡ longest) }
     requires visited_in_bounds { degrees graph.now (take count visited.now) ≤ length beside.old }
-    ensures { beside.new ≡ sets beside.old 0 (marksAlong graph.now marks.now (take count visited.now)) }
+    ensures { beside.new ≡ sets beside.old 0 (marks_along graph.now marks.now (take count visited.now)) }
 {
     let mut at = 0;
     let mut i = 0;

@@ -16,23 +16,23 @@ use lib.Dec.{eqb}
 use lib.Bits.{bit_or, or_shifted_r}
 use lib.Pow.{pow_mono, shl_exact}
 use Rattle.graphs.specs.Rows.{from, target}
-use Rattle.graphs.specs.Number.{countSome}
+use Rattle.graphs.specs.Number.{count_some}
 use Rattle.graphs.specs.Large.{Ascending}
 use Rattle.graphs.proofs.Lists.{count_small}
-use Rattle.encoder.specs.Encode.{bitsFrom}
+use Rattle.encoder.specs.Encode.{bits_from}
 use Rattle.encoder.specs.NumberedRows.{low_bytes}
 
 -- the sum of the powers of two at the features
-unfoldable pub mapOf : List ℕ → ℕ
-mapOf [] = 0
-mapOf (f ∷ fs) = 2 ^ f + mapOf fs
+unfoldable pub map_of : List ℕ → ℕ
+map_of [] = 0
+map_of (f ∷ fs) = 2 ^ f + map_of fs
 
-pub map-none : mapOf [] ≡ 0
-unfolding mapOf
+pub map-none : map_of [] ≡ 0
+unfolding map_of
 map-none = refl
 
-pub map_more : (fs : List ℕ) (f : ℕ) → mapOf (fs ++ (f ∷ [])) ≡ mapOf fs + 2 ^ f
-unfolding mapOf
+pub map_more : (fs : List ℕ) (f : ℕ) → map_of (fs ++ (f ∷ [])) ≡ map_of fs + 2 ^ f
+unfolding map_of
 map_more [] f = omega arith
 map_more (g ∷ fs) f = omega (arith, map_more fs f)
 
@@ -77,29 +77,29 @@ module _ (f : ℕ) where
       go true e = refl
       go false e = e
 
-count-renamed : (name : ℕ → ℕ) (o : Option ℕ) → countSome (Option.map name o) ≡ countSome o
+count-renamed : (name : ℕ → ℕ) (o : Option ℕ) → count_some (Option.map name o) ≡ count_some o
 count-renamed name none = refl
 count-renamed name (some w) = refl
 
 pub bits-renamed : (name : ℕ → ℕ) (links : List (ℕ × ℕ)) (f k : ℕ) →
-    bitsFrom (map {B = ℕ × ℕ} (λ l. (l.0, name l.1)) links) f k ≡ bitsFrom links f k
-unfolding bitsFrom
+    bits_from (map {B = ℕ × ℕ} (λ l. (l.0, name l.1)) links) f k ≡ bits_from links f k
+unfolding bits_from
 bits-renamed name links f zero = refl
 bits-renamed name links f (suc k) =
-    ap₂ (λ (a b : ℕ). a + 2 * b) (ap countSome (target-renamed f name links) ∙ count-renamed name (target links f))
+    ap₂ (λ (a b : ℕ). a + 2 * b) (ap count_some (target-renamed f name links) ∙ count-renamed name (target links f))
     (bits-renamed name links (suc f) k)
 
-pub bits_small : (links : List (ℕ × ℕ)) (f k : ℕ) → bitsFrom links f k < 2 ^ k
-unfolding bitsFrom
+pub bits_small : (links : List (ℕ × ℕ)) (f k : ℕ) → bits_from links f k < 2 ^ k
+unfolding bits_from
 bits_small links f zero = omega arith
 bits_small links f (suc k) = omega (arith, pow-suc 2 k, count_small (target links f), bits_small links (suc f) k)
 
 -- a link below the features asked sets no bit
-bits-later : (l : ℕ × ℕ) (ls : List (ℕ × ℕ)) (f k : ℕ) → l.0 < f → bitsFrom (l ∷ ls) f k ≡ bitsFrom ls f k
-unfolding bitsFrom
+bits-later : (l : ℕ × ℕ) (ls : List (ℕ × ℕ)) (f k : ℕ) → l.0 < f → bits_from (l ∷ ls) f k ≡ bits_from ls f k
+unfolding bits_from
 bits-later l ls f zero h = refl
 bits-later l ls f (suc k) h =
-    ap₂ (λ (a b : ℕ). a + 2 * b) (ap countSome (target-later f l ls (λ (e : l.0 ≡ f). omega arith)))
+    ap₂ (λ (a b : ℕ). a + 2 * b) (ap count_some (target-later f l ls (λ (e : l.0 ≡ f). omega arith)))
     (bits-later l ls (suc f) k (omega arith))
 
 -- the links' features lie from f on, k of them
@@ -117,59 +117,59 @@ shift_one f b =
 
 -- the map of ascending links is the number that says which features stand
 map-bits : (links : List (ℕ × ℕ)) (f k : ℕ) → Ascending links → Within f k links →
-    mapOf (map (λ l. l.0) links) ≡ 2 ^ f * bitsFrom links f k
-unfolding bitsFrom mapOf target
+    map_of (map (λ l. l.0) links) ≡ 2 ^ f * bits_from links f k
+unfolding bits_from map_of target
 map-bits [] f zero up inside = sym (mul-zero (2 ^ f))
 map-bits (l ∷ ls) f zero up inside = absurd (omega (arith, inside l (Memᴰ.head refl)))
 map-bits [] f (suc k) up inside =
-    map-bits [] (suc f) k tt (λ l m. absurd (Memᴰ.not-nil m)) ∙ shift_none f (bitsFrom [] (suc f) k)
+    map-bits [] (suc f) k tt (λ l m. absurd (Memᴰ.not-nil m)) ∙ shift_none f (bits_from [] (suc f) k)
 map-bits (l ∷ ls) f (suc k) up inside = go (ℕ_discrete l.0 f) (map-bits ls (suc f) k up.1) (map-bits (l ∷ ls) (suc f) k up)
   where
     After : List (ℕ × ℕ) → Type 0
-    After ms = Within (suc f) k ms → mapOf (map (λ l. l.0) ms) ≡ 2 ^ suc f * bitsFrom ms (suc f) k
+    After ms = Within (suc f) k ms → map_of (map (λ l. l.0) ms) ≡ 2 ^ suc f * bits_from ms (suc f) k
 
     go : Dec (l.0 ≡ f) → After ls → After (l ∷ ls) →
-        2 ^ l.0 + mapOf (map (λ l. l.0) ls) ≡ 2 ^ f * (countSome (target (l ∷ ls) f) + 2 * bitsFrom (l ∷ ls) (suc f) k)
+        2 ^ l.0 + map_of (map (λ l. l.0) ls) ≡ 2 ^ f * (count_some (target (l ∷ ls) f) + 2 * bits_from (l ∷ ls) (suc f) k)
     go (yes e) rest whole =
         ap₂ (λ (g n : ℕ). 2 ^ g + n) e (rest (λ m i. omega (arith, up.0 m i, inside m (Memᴰ.tail i))))
-        ∙ shift_one f (bitsFrom ls (suc f) k)
-        ∙ ap₂ (λ (a b : ℕ). 2 ^ f * (a + 2 * b)) (sym (ap countSome (target_first f l ls e)))
+        ∙ shift_one f (bits_from ls (suc f) k)
+        ∙ ap₂ (λ (a b : ℕ). 2 ^ f * (a + 2 * b)) (sym (ap count_some (target_first f l ls e)))
         (sym (bits-later l ls (suc f) k (omega arith)))
     go (no d) rest whole =
         let low : f < l.0 = omega (arith, inside l (Memᴰ.head refl)) in
         let above : (m : ℕ × ℕ) → Memᴰ m (l ∷ ls) → f < m.0 =
         λ m i. ⊎_elim (λ (e : m ≡ l). omega (arith, ap (λ (x : ℕ × ℕ). x.0) e)) (λ n. omega (arith, up.0 m n)) (Memᴰ.cases_cons i) in
         whole (λ m i. omega (arith, above m i, inside m i))
-        ∙ shift_none f (bitsFrom (l ∷ ls) (suc f) k)
-        ∙ ap (λ (a : ℕ). 2 ^ f * (a + 2 * bitsFrom (l ∷ ls) (suc f) k))
-        (sym (ap countSome (target-absent f (l ∷ ls) (λ m i (e : m.0 ≡ f). omega (arith, above m i)))))
+        ∙ shift_none f (bits_from (l ∷ ls) (suc f) k)
+        ∙ ap (λ (a : ℕ). 2 ^ f * (a + 2 * bits_from (l ∷ ls) (suc f) k))
+        (sym (ap count_some (target-absent f (l ∷ ls) (λ m i (e : m.0 ≡ f). omega (arith, above m i)))))
 
 -- Eight features to a byte.
 
-abbrev eightMore : ℕ → ℕ
-eightMore n = suc (suc (suc (suc (suc (suc (suc (suc n)))))))
+abbrev eight_more : ℕ → ℕ
+eight_more n = suc (suc (suc (suc (suc (suc (suc (suc n)))))))
 
 bits-eight : (links : List (ℕ × ℕ)) (f k : ℕ) →
-    bitsFrom links f (eightMore k)
-    ≡ bitsFrom links f 8 + 256 * bitsFrom links (eightMore f) k
-unfolding bitsFrom
+    bits_from links f (eight_more k)
+    ≡ bits_from links f 8 + 256 * bits_from links (eight_more f) k
+unfolding bits_from
 bits-eight links f k = omega arith
 
 bits-bytes : (links : List (ℕ × ℕ)) (n j f : ℕ) → f ≡ 8 * j →
-    low_bytes n (bitsFrom links f (8 * n)) ≡ map (λ k. bitsFrom links (8 * k) 8) (from j n)
+    low_bytes n (bits_from links f (8 * n)) ≡ map (λ k. bits_from links (8 * k) 8) (from j n)
 unfolding low_bytes from
 bits-bytes links zero j f e = refl
 bits-bytes links (suc n) j f e =
-    let m : 8 * suc n ≡ eightMore (8 * n) = omega arith in
-    let split : bitsFrom links f (8 * suc n) ≡ bitsFrom links f 8 + 256 * bitsFrom links (eightMore f) (8 * n) = ap (bitsFrom links f) m ∙ bits-eight links f (8 * n) in
-    let small : bitsFrom links f 8 < 256 = bits_small links f 8 in
-    let low : bitsFrom links f (8 * suc n) % 256 ≡ bitsFrom links f 8 = omega arith in
-    let high : bitsFrom links f (8 * suc n) / 256 ≡ bitsFrom links (eightMore f) (8 * n) = omega arith in
-    ap₂ (λ (x : ℕ) (xs : List ℕ). x ∷ xs) (low ∙ ap (λ (g : ℕ). bitsFrom links g 8) e)
-    (ap (low_bytes n) high ∙ bits-bytes links n (suc j) (eightMore f) (omega arith))
+    let m : 8 * suc n ≡ eight_more (8 * n) = omega arith in
+    let split : bits_from links f (8 * suc n) ≡ bits_from links f 8 + 256 * bits_from links (eight_more f) (8 * n) = ap (bits_from links f) m ∙ bits-eight links f (8 * n) in
+    let small : bits_from links f 8 < 256 = bits_small links f 8 in
+    let low : bits_from links f (8 * suc n) % 256 ≡ bits_from links f 8 = omega arith in
+    let high : bits_from links f (8 * suc n) / 256 ≡ bits_from links (eight_more f) (8 * n) = omega arith in
+    ap₂ (λ (x : ℕ) (xs : List ℕ). x ∷ xs) (low ∙ ap (λ (g : ℕ). bits_from links g 8) e)
+    (ap (low_bytes n) high ∙ bits-bytes links n (suc j) (eight_more f) (omega arith))
 
 -- The bytes of the map of ascending links below 64 are the feature map of their row.
 pub map-bytes : (links : List (ℕ × ℕ)) → Ascending links → Within 0 64 links →
-    low_bytes 8 (mapOf (map (λ l. l.0) links)) ≡ map (λ k. bitsFrom links (8 * k) 8) (from 0 8)
+    low_bytes 8 (map_of (map (λ l. l.0) links)) ≡ map (λ k. bits_from links (8 * k) 8) (from 0 8)
 map-bytes links up inside =
-    ap (low_bytes 8) (map-bits links 0 64 up inside ∙ one-mul (bitsFrom links 0 64)) ∙ bits-bytes links 8 0 0 refl
+    ap (low_bytes 8) (map-bits links 0 64 up inside ∙ one-mul (bits_from links 0 64)) ∙ bits-bytes links 8 0 0 refl

@@ -7,34 +7,34 @@ use native.Mathlib.Omega.{arith}
 use lib.ListN.{length, set}
 use lib.Seq.{sets}
 use Rattle.lattice.specs.Label.{Label}
-use Rattle.encoder.specs.Encode.{isFull, encodedLabel}
-use Rattle.encoder.specs.NumberedRows.{rangeCount}
+use Rattle.encoder.specs.Encode.{is_full, encoded_label}
+use Rattle.encoder.specs.NumberedRows.{range_count}
 
 module _ (l : Label) where
   -- The bytes.
 
-  abbrev byRange : Bool → List ℕ
-  byRange full = cond full (l.type ∷ []) ((128 + l.type) ∷ l.lowest ∷ l.highest ∷ [])
+  abbrev by_range : Bool → List ℕ
+  by_range full = cond full (l.type ∷ []) ((128 + l.type) ∷ l.lowest ∷ l.highest ∷ [])
 
-  full-bytes : isFull l ≡ true → encodedLabel l ≡ byRange true
-  unfolding encodedLabel
-  full-bytes e = ap byRange e
+  full-bytes : is_full l ≡ true → encoded_label l ≡ by_range true
+  unfolding encoded_label
+  full-bytes e = ap by_range e
 
-  ranged-bytes : isFull l ≡ false → encodedLabel l ≡ byRange false
-  unfolding encodedLabel
-  ranged-bytes e = ap byRange e
+  ranged-bytes : is_full l ≡ false → encoded_label l ≡ by_range false
+  unfolding encoded_label
+  ranged-bytes e = ap by_range e
 
-  pub full-length : isFull l ≡ true → length (encodedLabel l) ≡ 1
+  pub full-length : is_full l ≡ true → length (encoded_label l) ≡ 1
   full-length e = ap length (full-bytes e)
 
-  pub ranged-length : isFull l ≡ false → length (encodedLabel l) ≡ 3
+  pub ranged-length : is_full l ≡ false → length (encoded_label l) ≡ 3
   ranged-length e = ap length (ranged-bytes e)
 
-  pub full-stored : (out : List ℕ) (at : ℕ) → isFull l ≡ true → set out at l.type ≡ sets out at (encodedLabel l)
+  pub full-stored : (out : List ℕ) (at : ℕ) → is_full l ≡ true → set out at l.type ≡ sets out at (encoded_label l)
   full-stored out at e = ap (sets out at) (sym (full-bytes e))
 
-  pub ranged-stored : (out : List ℕ) (at : ℕ) → isFull l ≡ false →
-      set (set (set out at (128 + l.type)) (at + 1) l.lowest) (at + 2) l.highest ≡ sets out at (encodedLabel l)
+  pub ranged-stored : (out : List ℕ) (at : ℕ) → is_full l ≡ false →
+      set (set (set out at (128 + l.type)) (at + 1) l.lowest) (at + 2) l.highest ≡ sets out at (encoded_label l)
   ranged-stored out at e =
       let one : at + 1 ≡ suc at = omega arith in
       let two : at + 2 ≡ suc (suc at) = omega arith in
@@ -42,18 +42,18 @@ module _ (l : Label) where
       ∙ ap (sets out at) (sym (ranged-bytes e))
 
   -- one byte, and two more for a range
-  pub label-length : (length (encodedLabel l) ≡ 1 + 2 * rangeCount l) × (rangeCount l ≤ 1)
-  unfolding encodedLabel rangeCount
-  label-length = go (isFull l)
+  pub label-length : (length (encoded_label l) ≡ 1 + 2 * range_count l) × (range_count l ≤ 1)
+  unfolding encoded_label range_count
+  label-length = go (is_full l)
     where
-      go : (full : Bool) → (length (byRange full) ≡ 1 + 2 * cond full 0 1) × (cond full 0 1 ≤ 1)
+      go : (full : Bool) → (length (by_range full) ≡ 1 + 2 * cond full 0 1) × (cond full 0 1 ≤ 1)
       go true = (omega arith, omega arith)
       go false = (omega arith, omega arith)
 
-  pub full-count : isFull l ≡ true → rangeCount l ≡ 0
-  unfolding rangeCount
+  pub full-count : is_full l ≡ true → range_count l ≡ 0
+  unfolding range_count
   full-count e = ap (λ (full : Bool). cond full 0 1) e
 
-  pub ranged-count : isFull l ≡ false → rangeCount l ≡ 1
-  unfolding rangeCount
+  pub ranged-count : is_full l ≡ false → range_count l ≡ 1
+  unfolding range_count
   ranged-count e = ap (λ (full : Bool). cond full 0 1) e

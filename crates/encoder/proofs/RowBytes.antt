@@ -8,7 +8,7 @@ use lib.ListN.{length, set}
 use lib.Seq.{sets}
 use Rattle.graphs.specs.Rows.{Row}
 use Rattle.lattice.specs.Label.{Label}
-use Rattle.encoder.specs.Encode.{encodedRow, encodedRows}
+use Rattle.encoder.specs.Encode.{encoded_row, encoded_rows}
 use Rattle.encoder.specs.NumberedRows.{low_bytes}
 use Rattle.graphs.proofs.Stores.{sets-append, sets-comm}
 
@@ -32,10 +32,10 @@ bytes-end out at i n h =
     let e : 8 - i ≡ 0 = omega arith in
     ap (λ (k : ℕ). sets out (at + i) (low_bytes k n)) e
 
-pub length-lowBytes : (k n : ℕ) → length (low_bytes k n) ≡ k
+pub length-low_bytes : (k n : ℕ) → length (low_bytes k n) ≡ k
 unfolding low_bytes
-length-lowBytes zero n = refl
-length-lowBytes (suc k) n = ap suc (length-lowBytes k (n / 256))
+length-low_bytes zero n = refl
+length-low_bytes (suc k) n = ap suc (length-low_bytes k (n / 256))
 
 -- Lists by name.
 
@@ -61,8 +61,8 @@ row-stored out at label bytes numbers e =
     ∙ sym (sets-append label out at (bytes ++ numbers))
     ∙ ap (sets out at) (sym (append_assoc label bytes numbers))
 
-pub rows_more : (rs : List (Row Label)) (r : Row Label) → encodedRows (rs ++ (r ∷ [])) ≡ encodedRows rs ++ encodedRow r
-unfolding encodedRows
-rows_more [] r = append-nil (encodedRow r)
+pub rows_more : (rs : List (Row Label)) (r : Row Label) → encoded_rows (rs ++ (r ∷ [])) ≡ encoded_rows rs ++ encoded_row r
+unfolding encoded_rows
+rows_more [] r = append-nil (encoded_row r)
 rows_more (x ∷ rs) r =
-    ap (λ (l : List ℕ). encodedRow x ++ l) (rows_more rs r) ∙ sym (append_assoc (encodedRow x) (encodedRows rs) (encodedRow r))
+    ap (λ (l : List ℕ). encoded_row x ++ l) (rows_more rs r) ∙ sym (append_assoc (encoded_row x) (encoded_rows rs) (encoded_row r))

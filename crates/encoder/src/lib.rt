@@ -5,8 +5,8 @@ ghost use Rattle.std.specs.Prelude.{length, take, ◌≡◌, ◌+◌, ◌≤◌,
 ghost use Rattle.std.proofs.lemmas.List.Edits.{sets};
 ghost use Rattle.layout.specs.Builder.{stated};
 ghost use Rattle.layout.specs.Layout.{Sound, size};
-ghost use Rattle.encoder.specs.Encode.{encodedLabel, encodedRow, encoded};
-ghost use Rattle.encoder.specs.NumberedRows.{Visited, degrees, low_bytes, numberedRow, numberedRows, rangeCount, ranges};
+ghost use Rattle.encoder.specs.Encode.{encoded_label, encoded_row, encoded};
+ghost use Rattle.encoder.specs.NumberedRows.{Visited, degrees, low_bytes, numbered_row, numbered_rows, range_count, ranges};
 
 use layout::Label;
 
@@ -19,7 +19,7 @@ pub struct Extent {
 
 // 1 where a label's range is written, else 0.
 fn range_count(label: Label) -> usize
-    ensures { result ≡ rangeCount (stated label) }
+    ensures { result ≡ range_count (stated label) }
 {
     if layout::is_full(label) {
         return 0;
@@ -50,9 +50,9 @@ pub fn extent_of<'a>(graph: &'a [u16], visited: &'a [u16; 255], count: usize) ->
 // Writes a label at a place. Answers the next place.
 fn put_label(label: Label, at: usize, out: &mut [u8]) -> usize
     requires kind_bound { label.kind < 128 }
-    requires label_in_bounds { at + length (encodedLabel (stated label)) ≤ length out.old }
-    ensures value { result ≡ at + length (encodedLabel (stated label)) }
-    ensures out_after { out.new ≡ sets out.old at (encodedLabel (stated label)) }
+    requires label_in_bounds { at + length (encoded_label (stated label)) ≤ length out.old }
+    ensures value { result ≡ at + length (encoded_label (stated label)) }
+    ensures out_after { out.new ≡ sets out.old at (encoded_label (stated label)) }
 {
     if layout::is_full(label) {
         out[at] = label.kind;
@@ -73,9 +73,9 @@ fn encode_row<'a>(
     out: &mut [u8],
 ) -> usize
     requires sound { Sound graph.now × (v < size graph.now) }
-    requires v_in_bounds { at + length (encodedRow (numberedRow graph.now numbers.now v)) ≤ length out.old }
-    ensures value { result ≡ at + length (encodedRow (numberedRow graph.now numbers.now v)) }
-    ensures out_after { out.new ≡ sets out.old at (encodedRow (numberedRow graph.now numbers.now v)) }
+    requires v_in_bounds { at + length (encoded_row (numbered_row graph.now numbers.now v)) ≤ length out.old }
+    ensures value { result ≡ at + length (encoded_row (numbered_row graph.now numbers.now v)) }
+    ensures out_after { out.new ≡ sets out.old at (encoded_row (numbered_row graph.now numbers.now v)) }
 {
     let row = graph[v + 1] as usize;
     let end = graph[v + 2] as usize;
@@ -119,8 +119,8 @@ pub fn encode<'a>(
     out: &mut [u8],
 )
     requires visited { Visited graph.now visited.now count }
-    requires visited_in_bounds { length (encoded (numberedRows graph.now numbers.now (take count visited.now))) ≤ length out.old }
-    ensures { out.new ≡ sets out.old 0 (encoded (numberedRows graph.now numbers.now (take count visited.now))) }
+    requires visited_in_bounds { length (encoded (numbered_rows graph.now numbers.now (take count visited.now))) ≤ length out.old }
+    ensures { out.new ≡ sets out.old 0 (encoded (numbered_rows graph.now numbers.now (take count visited.now))) }
 {
     out[0] = (count % 256) as u8;
     let mut at = 1;

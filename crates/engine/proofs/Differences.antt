@@ -11,7 +11,7 @@ use Rattle.graphs.specs.Number.{canonical}
 use Rattle.graphs.proofs.Lists.{tells-eqb}
 use Rattle.lattice.specs.Label.{Label}
 use Rattle.lattice.specs.Labels.{Known}
-use Rattle.layout.specs.Layout.{size, label_at, linksAt, graphOfRows, rows_of, graphIn}
+use Rattle.layout.specs.Layout.{size, label_at, links_at, graph_of_rows, rows_of, graph_in}
 use Rattle.layout.proofs.Rows.{rows-member}
 use Rattle.encoder.specs.Encode.{encoded}
 use Rattle.numbering.specs.Copies.{Renumbers}
@@ -21,10 +21,10 @@ use Rattle.record.specs.Reads.{Acceptable, Loaded}
 use Rattle.record.proofs.Accepted.{Rules, accepted-rules, rules-of-any-size, rules-types, rules-fit}
 use Rattle.record.proofs.Loaded.{loaded-rules}
 use Rattle.record.proofs.Rewritten.{form-rules, rules-read}
-use Rattle.link_orders.specs.LinkOrders.{earlierBy}
+use Rattle.link_orders.specs.LinkOrders.{earlier_by}
 use Rattle.difference.specs.declared.Options.{Options}
-use Rattle.difference.specs.Difference.{differed, differedRows, numbered}
-use Rattle.difference.specs.Explained.{Explained, explainedResult, withReasonsIf, reasonsRows, differedWords}
+use Rattle.difference.specs.Difference.{differed, differed_rows, numbered}
+use Rattle.difference.specs.Explained.{Explained, explained_result, with_reasons_if, reasons_rows, differed_words}
 use Rattle.difference.proofs.Answering.{refuses-with-reasons}
 use Rattle.replies.specs.declared.Side.{Side}
 use Rattle.replies.specs.declared.Reply.TheVariants.{Graph}
@@ -33,27 +33,27 @@ use Rattle.pairs.specs.declared.PairVerdict.{PairVerdict}
 use Rattle.pairs.specs.declared.PairVerdict.TheVariants as pair
 use Rattle.pairs.specs.Pair.{ReadsBoth}
 use Rattle.pairs.proofs.Readings.{both-next, both-refused}
-use Rattle.engine.specs.Differing.{ReadsNumbered, partingWith, reasonsOf}
+use Rattle.engine.specs.Differing.{ReadsNumbered, parting_with, reasons_of}
 
 -- The words hold the written form of the graph with these rows, and its record is accepted.
 pub record Renumbered (n : ℕ) (rows : List (Row Label)) (ws : List ℕ) : Type 0 where
   pub loaded : Loaded n ws
-  pub rows_are : rows_of ws ≡ numbered (canonical eqb (graphOfRows rows))
+  pub rows_are : rows_of ws ≡ numbered (canonical eqb (graph_of_rows rows))
 
 -- If the words hold accepted rows, the labels in the words are labels of the table.
 rows-typed : {n : ℕ} {form : List (Row Label)} (ws : List ℕ) → Rules n form → rows_of ws ≡ form → (v : ℕ) → v < size ws → Known n (label_at ws v)
 rows-typed ws rules same v h =
-    (rules.ranged (label_at ws v, linksAt ws v)
-    (subst (λ (rs : List (Row Label)). Memᴰ {A = Row Label} (label_at ws v, linksAt ws v) rs) same
+    (rules.ranged (label_at ws v, links_at ws v)
+    (subst (λ (rs : List (Row Label)). Memᴰ {A = Row Label} (label_at ws v, links_at ws v) rs) same
     (rows-member ws (size ws) 0 v v (omega arith) h))).0.1
 
 pub renumbered : (n : ℕ) (g : List ℕ) → Loaded n g → {answer : Bool} {ws : List ℕ} →
-    Renumbers (canonical eqb (graphIn g)) answer ws → Renumbered n (rows_of g) ws
+    Renumbers (canonical eqb (graph_in g)) answer ws → Renumbered n (rows_of g) ws
 renumbered n g given {ws = ws} holds =
     let rules = loaded-rules given in
     let (form, fits) = rules-fit n (rows_of g) rules in
     let is : Acceptable n form =
-    rules-read n form (form-rules n [] eqb tells-eqb (graphIn g) (rules-of-any-size n (rows_of g) rules []) form fits
+    rules-read n form (form-rules n [] eqb tells-eqb (graph_in g) (rules-of-any-size n (rows_of g) rules []) form fits
     (rules-types n (rows_of g) rules)) in
     let same = holds.rows_are form fits in
     record {
@@ -92,18 +92,18 @@ module _ (options : Options) (n : ℕ) (t a b out old : List ℕ) {v : PairVerdi
     (reads : ReadsBoth n (reading n a) (reading n b) v g s) where
   -- If a record is refused, the reply is the refusal 4 to 7.
   pub parting-refused : (fault : GraphFault) (side : Side) → v ≡ pair.Refused fault side →
-      explainedResult (Graph fault side) out old ≡ partingWith options n t a b out old
+      explained_result (Graph fault side) out old ≡ parting_with options n t a b out old
   parting-refused fault side e =
-      refuses-with-reasons options.explained (Graph fault side) (reasonsOf (earlierBy options.order) n t a b) out old refl
-      (sym (both-refused reads (λ r. refusing r out) (differedRows (earlierBy options.order) n t out) fault side e))
+      refuses-with-reasons options.explained (Graph fault side) (reasons_of (earlier_by options.order) n t a b) out old refl
+      (sym (both-refused reads (λ r. refusing r out) (differed_rows (earlier_by options.order) n t out) fault side e))
 
   -- If both records are accepted, the result is that of the difference of the graphs in words.
-  pub parting-both : v ≡ pair.Both → (h : List ℕ) → rows_of h ≡ numbered (canonical eqb (graphOfRows (rows_of s))) → {x : Explained} →
-      x ≡ differedWords options n t g h out old → x ≡ partingWith options n t a b out old
-  unfolding reasonsOf differedRows
+  pub parting-both : v ≡ pair.Both → (h : List ℕ) → rows_of h ≡ numbered (canonical eqb (graph_of_rows (rows_of s))) → {x : Explained} →
+      x ≡ differed_words options n t g h out old → x ≡ parting_with options n t a b out old
+  unfolding reasons_of differed_rows
   parting-both both h rows_are e =
-      let earlier = earlierBy options.order in
-      e ∙ ap₂ (λ (p : Result) (rs : List ℕ). withReasonsIf options.explained p rs out old)
-      (ap (differed earlier n t out (rows_of g)) rows_are ∙ sym (both-next reads (λ r. refusing r out) (differedRows earlier n t out) both))
-      (ap (reasonsRows earlier n t (rows_of g)) rows_are ∙
-      sym (both-next reads (λ r. []) (λ g s. reasonsRows earlier n t g (numbered (canonical eqb (graphOfRows s)))) both))
+      let earlier = earlier_by options.order in
+      e ∙ ap₂ (λ (p : Result) (rs : List ℕ). with_reasons_if options.explained p rs out old)
+      (ap (differed earlier n t out (rows_of g)) rows_are ∙ sym (both-next reads (λ r. refusing r out) (differed_rows earlier n t out) both))
+      (ap (reasons_rows earlier n t (rows_of g)) rows_are ∙
+      sym (both-next reads (λ r. []) (λ g s. reasons_rows earlier n t g (numbered (canonical eqb (graph_of_rows s)))) both))

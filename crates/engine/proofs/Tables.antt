@@ -15,7 +15,7 @@ use Rattle.graphs.proofs.Form.Bisimilar.{Alike, absent, present}
 use Rattle.graphs.proofs.Form.Invariant.{bisimilar-canonical}
 use Rattle.lattice.specs.Label.{Label, no_label}
 use Rattle.lattice.specs.Labels.{Known}
-use Rattle.layout.specs.Layout.{graphOfRows}
+use Rattle.layout.specs.Layout.{graph_of_rows}
 use Rattle.acceptance.specs.declared.Opened.{Opened}
 use Rattle.acceptance.specs.declared.Opened.TheVariants.{Accepted}
 use Rattle.acceptance.specs.Reply.{opened}
@@ -30,10 +30,10 @@ pub few-types : (n : ℕ) (t : List ℕ) (answer : Opened) → answer ≡ opened
 few-types n t answer e told = (accepted-size n t (opened-accepted n t answer e told)).1
 
 -- Every label of accepted rows is a label of the table, and so is the label past their end.
-pub label-known : {n : ℕ} {rows : List (Row Label)} → 0 < n → Rules n rows → (v : ℕ) → Known n ((graphOfRows rows).label v)
+pub label-known : {n : ℕ} {rows : List (Row Label)} → 0 < n → Rules n rows → (v : ℕ) → Known n ((graph_of_rows rows).label v)
 label-known {n} {rows} types rules v = go (dec_le (length rows) v)
   where
-    go : Dec (length rows ≤ v) → Known n ((graphOfRows rows).label v)
+    go : Dec (length rows ≤ v) → Known n ((graph_of_rows rows).label v)
     go (yes past) =
         subst (Known n) (sym (ap (λ (r : Row Label). r.0) (get_or-eq_default rows (no_label, []) past))) (plain_known n 0 types)
     go (no inside) = (rules.ranged (get_or rows v (no_label, [])) (node_row rows v (omega arith))).0.1

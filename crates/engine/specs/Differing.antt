@@ -4,15 +4,15 @@ use Rattle.std.specs.Prelude.{◌≡◌, Bool, List, [], ℕ, eqb}
 use Rattle.graphs.specs.Number.{canonical}
 use Rattle.graphs.specs.Difference.{Link}
 use Rattle.layout.specs.Layout.{rows_of}
-use Rattle.record.specs.Read.{graphOfRows, reading}
+use Rattle.record.specs.Read.{graph_of_rows, reading}
 use Rattle.record.specs.Reads.{Loaded}
-use Rattle.link_orders.specs.LinkOrders.{earlierBy}
+use Rattle.link_orders.specs.LinkOrders.{earlier_by}
 use Rattle.difference.specs.declared.Options.{Options}
-use Rattle.difference.specs.Difference.{differedRows, numbered}
-use Rattle.difference.specs.Explained.{Explained, reasonsRows, withReasonsIf}
+use Rattle.difference.specs.Difference.{differed_rows, numbered}
+use Rattle.difference.specs.Explained.{Explained, reasons_rows, with_reasons_if}
 use Rattle.pairs.specs.declared.PairVerdict.{PairVerdict}
 use Rattle.pairs.specs.declared.PairVerdict.TheVariants.{Both}
-use Rattle.pairs.specs.Pair.{ReadsBoth, readBoth}
+use Rattle.pairs.specs.Pair.{ReadsBoth, read_both}
 use Rattle.replies.specs.Reply.{Result, refusing}
 
 -- The verdict is that of reading the records a and b. Where both are accepted, the words g hold the first graph, and the words s hold the second
@@ -21,18 +21,18 @@ pub record ReadsNumbered (n : ℕ) (a b : List ℕ) (v : PairVerdict) (g s : Lis
   pub given : List ℕ
   pub reads : ReadsBoth n (reading n a) (reading n b) v g given
   pub loaded : v ≡ Both → Loaded n g × Loaded n s
-  pub rows_are : v ≡ Both → rows_of s ≡ numbered (canonical eqb (graphOfRows (rows_of given)))
+  pub rows_are : v ≡ Both → rows_of s ≡ numbered (canonical eqb (graph_of_rows (rows_of given)))
 
 -- Both graphs' 4 to 7 are checked; then their difference by an order of links is written.
 abbrev pub parting : (Link ℕ → Link ℕ → Bool) → ℕ → List ℕ → List ℕ → List ℕ → List ℕ → Result
-parting earlier n t a b out = readBoth (λ r. refusing r out) (reading n a) (reading n b) (differedRows earlier n t out)
+parting earlier n t a b out = read_both (λ r. refusing r out) (reading n a) (reading n b) (differed_rows earlier n t out)
 
 -- The reasons for the links of the difference of two records, with s numbered as written. There are no reasons where a record is refused.
-unfoldable pub reasonsOf : (Link ℕ → Link ℕ → Bool) → ℕ → List ℕ → List ℕ → List ℕ → List ℕ
-reasonsOf earlier n t a b =
-    readBoth (λ r. []) (reading n a) (reading n b) λ g s. reasonsRows earlier n t g (numbered (canonical eqb (graphOfRows s)))
+unfoldable pub reasons_of : (Link ℕ → Link ℕ → Bool) → ℕ → List ℕ → List ℕ → List ℕ → List ℕ
+reasons_of earlier n t a b =
+    read_both (λ r. []) (reading n a) (reading n b) λ g s. reasons_rows earlier n t g (numbered (canonical eqb (graph_of_rows s)))
 
 -- The difference of two records by the options of a call, with its reasons or without them.
-abbrev pub partingWith : Options → ℕ → List ℕ → List ℕ → List ℕ → List ℕ → List ℕ → Explained
-partingWith options n t a b out old =
-    withReasonsIf options.explained (parting (earlierBy options.order) n t a b out) (reasonsOf (earlierBy options.order) n t a b) out old
+abbrev pub parting_with : Options → ℕ → List ℕ → List ℕ → List ℕ → List ℕ → List ℕ → Explained
+parting_with options n t a b out old =
+    with_reasons_if options.explained (parting (earlier_by options.order) n t a b out) (reasons_of (earlier_by options.order) n t a b) out old

@@ -3,17 +3,17 @@ use Rattle.std.specs.Prelude.{List, ℕ, eqb}
 use Rattle.graphs.specs.Rows.{Row}
 use Rattle.graphs.specs.Number.{canonical}
 use Rattle.lattice.specs.Label.{Label}
-use Rattle.encode.specs.Encode.{writtenOut}
-use Rattle.record.specs.Read.{Reading, refused, accepted, graphOfRows}
+use Rattle.encode.specs.Encode.{written_out}
+use Rattle.record.specs.Read.{Reading, refused, accepted, graph_of_rows}
 use Rattle.replies.specs.declared.Side.TheVariants.{First}
 use Rattle.replies.specs.declared.Reply.TheVariants.{Graph}
 use Rattle.replies.specs.Reply.{Result, result_of, refusing}
 
 -- The result of writing a graph, given by its rows, in written form.
-abbrev pub rewrittenRows : List ℕ → List (Row Label) → Result
-rewrittenRows out rows = result_of (writtenOut (canonical eqb (graphOfRows rows)) out)
+abbrev pub rewritten_rows : List ℕ → List (Row Label) → Result
+rewritten_rows out rows = result_of (written_out (canonical eqb (graph_of_rows rows)) out)
 
 -- A refused record gives its refusal: "A lone graph counts as the first." An accepted record is written in written form.
 abbrev pub rewritten : Reading → List ℕ → Result
 rewritten (refused fault) out = refusing (Graph fault First) out
-rewritten (accepted rows) out = rewrittenRows out rows
+rewritten (accepted rows) out = rewritten_rows out rows

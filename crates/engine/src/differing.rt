@@ -7,9 +7,9 @@ ghost use Rattle.layout.specs.Layout.{longest};
 ghost use Rattle.decode.specs.Answers.{Roomy};
 ghost use Rattle.record.specs.Reads.{Loaded};
 ghost use Rattle.link_orders.specs.LinkOrders.{Fitting};
-ghost use Rattle.difference.specs.Explained.{explainedResult};
+ghost use Rattle.difference.specs.Explained.{explained_result};
 ghost use Rattle.pairs.specs.declared.PairVerdict.TheVariants.{Both};
-ghost use Rattle.engine.specs.Differing.{ReadsNumbered, partingWith};
+ghost use Rattle.engine.specs.Differing.{ReadsNumbered, parting_with};
 
 use difference::Options;
 use pairs::PairVerdict;
@@ -26,8 +26,8 @@ pub fn of_records<'a>(
     reasons: &mut [u8],
 ) -> Reply
     requires { (accepted n table.now ≡ true) × Fitting options.order }
-    ensures { explainedResult result out.new reasons.new ≡
-        partingWith options n table.now first.now second.now out.old reasons.old }
+    ensures { explained_result result out.new reasons.new ≡
+        parting_with options n table.now first.now second.now out.old reasons.old }
 {
     if pairs::are_short(first, second) {
         let mut g = [0u16; layout::SHORT];
@@ -83,8 +83,8 @@ fn of_read<'a>(
     requires table_value { (accepted n table.now ≡ true) × Fitting options.order × (length s.now ≤ longest) × (length g.old ≡ length s.now) }
     requires loaded { verdict ≡ Both → Loaded n g.old × Loaded n s.now }
     ensures { (a b : List ℕ) → ReadsNumbered n a b verdict g.old s.now →
-        explainedResult result out.new reasons.new ≡
-        partingWith options n table.now a b out.old reasons.old }
+        explained_result result out.new reasons.new ≡
+        parting_with options n table.now a b out.old reasons.old }
 {
     match verdict {
         PairVerdict::Refused(fault, side) => Reply::Graph(fault, side),

@@ -8,7 +8,7 @@ ghost use Rattle.record.specs.Reads.{Loaded};
 ghost use Rattle.pairs.specs.declared.PairVerdict.TheVariants.{Both};
 ghost use Rattle.pairs.specs.Pair.{Optional, ReadsBeside};
 ghost use Rattle.replies.specs.Reply.{resulting};
-ghost use Rattle.engine.specs.Generalizing.{generalized, generalizedBeside};
+ghost use Rattle.engine.specs.Generalizing.{generalized, generalized_beside};
 
 use pairs::PairVerdict;
 use replies::Reply;
@@ -25,7 +25,7 @@ pub fn of_records<'a>(
     out: &mut [u8],
 ) -> Reply
     requires { OpenedFor true n table.now sets.now cells.now × Optional n list.now }
-    ensures { resulting result out.new ≡ generalizedBeside n table.now list.now first.now second.now out.old }
+    ensures { resulting result out.new ≡ generalized_beside n table.now list.now first.now second.now out.old }
 {
     if pairs::are_short(first, second) {
         let mut a = [0u16; layout::SHORT];
@@ -53,7 +53,7 @@ fn of_read<'a>(
     requires { ((t : List ℕ) × OpenedFor true n t sets.now cells.now) × (verdict ≡ Both → Loaded n a.now × Loaded n b.now) }
     ensures { (t list x y : List ℕ) → OpenedFor true n t sets.now cells.now →
         ReadsBeside n t list x y verdict a.now b.now →
-        resulting result out.new ≡ generalizedBeside n t list x y out.old }
+        resulting result out.new ≡ generalized_beside n t list x y out.old }
 {
     match verdict {
         PairVerdict::Refused(fault, side) => Reply::Graph(fault, side),

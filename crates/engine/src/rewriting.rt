@@ -3,9 +3,9 @@
 ghost use Rattle.std.specs.Prelude.{◌≡◌, ◌≤◌};
 ghost use Rattle.layout.specs.Layout.{Sound, rows_of};
 ghost use Rattle.decode.specs.Answers.{Roomy};
-ghost use Rattle.pairs.specs.Pair.{Optional, readingBeside};
+ghost use Rattle.pairs.specs.Pair.{Optional, reading_beside};
 ghost use Rattle.replies.specs.Reply.{resulting};
-ghost use Rattle.engine.specs.Rewriting.{rewritten, rewrittenRows};
+ghost use Rattle.engine.specs.Rewriting.{rewritten, rewritten_rows};
 
 use record::reading::Verdict;
 use replies::{Reply, Side};
@@ -14,7 +14,7 @@ use replies::{Reply, Side};
 // empty.
 pub fn of_record(n: usize, table: &[u8], list: &[u8], bytes: &[u8], out: &mut [u8]) -> Reply
     requires { (n ≤ 64) × Optional n list.now }
-    ensures { resulting result out.new ≡ rewritten (readingBeside n table.now list.now bytes.now) out.old }
+    ensures { resulting result out.new ≡ rewritten (reading_beside n table.now list.now bytes.now) out.old }
 {
     if bytes.len() <= decode::rows::SHORT {
         let mut graph = [0u16; layout::SHORT];
@@ -34,7 +34,7 @@ fn rewrite_in(
     out: &mut [u8],
 ) -> Reply
     requires { (n ≤ 64) × Optional n list.now × Roomy bytes.now graph.old }
-    ensures { resulting result out.new ≡ rewritten (readingBeside n table.now list.now bytes.now) out.old }
+    ensures { resulting result out.new ≡ rewritten (reading_beside n table.now list.now bytes.now) out.old }
 {
     let verdict = pairs::read_one(n, table, list, bytes, graph);
     match verdict {
@@ -46,7 +46,7 @@ fn rewrite_in(
 // Writes the written record of a graph in words.
 pub fn of_graph(graph: &[u16], out: &mut [u8]) -> Reply
     requires { Sound graph.now }
-    ensures { resulting result out.new ≡ rewrittenRows out.old (rows_of graph.now) }
+    ensures { resulting result out.new ≡ rewritten_rows out.old (rows_of graph.now) }
 {
     replies::reply_of(encode::canonical::write(graph, out))
 }

@@ -8,7 +8,7 @@ ghost use Rattle.record.specs.Reads.{Loaded};
 ghost use Rattle.pairs.specs.declared.PairVerdict.TheVariants.{Both};
 ghost use Rattle.pairs.specs.Pair.{Optional, ReadsBeside};
 ghost use Rattle.replies.specs.Reply.{resulting};
-ghost use Rattle.engine.specs.Unifying.{combinedReply, unifiedBeside, unifiedRows};
+ghost use Rattle.engine.specs.Unifying.{combined_reply, unified_beside, unified_rows};
 
 use pairs::PairVerdict;
 use replies::Reply;
@@ -26,7 +26,7 @@ pub fn of_records<'a>(
     out: &mut [u8],
 ) -> Reply
     requires { OpenedFor false n table.now sets.now cells.now × Optional n list.now }
-    ensures { resulting result out.new ≡ unifiedBeside n table.now list.now first.now second.now out.old }
+    ensures { resulting result out.new ≡ unified_beside n table.now list.now first.now second.now out.old }
 {
     if pairs::are_short(first, second) {
         let mut a = [0u16; layout::SHORT];
@@ -54,7 +54,7 @@ fn of_read<'a>(
     requires { ((t : List ℕ) × OpenedFor false n t sets.now cells.now) × (verdict ≡ Both → Loaded n a.now × Loaded n b.now) }
     ensures { (t list x y : List ℕ) → OpenedFor false n t sets.now cells.now →
         ReadsBeside n t list x y verdict a.now b.now →
-        resulting result out.new ≡ unifiedBeside n t list x y out.old }
+        resulting result out.new ≡ unified_beside n t list x y out.old }
 {
     match verdict {
         PairVerdict::Refused(fault, side) => Reply::Graph(fault, side),
@@ -73,14 +73,14 @@ pub fn of_graphs<'a>(
 ) -> Reply
     requires { ((t : List ℕ) × OpenedFor false n t sets.now cells.now) × (Loaded n a.now × Loaded n b.now) }
     ensures { (t : List ℕ) → OpenedFor false n t sets.now cells.now →
-        resulting result out.new ≡ unifiedRows n t out.old (rows_of a.now) (rows_of b.now) }
+        resulting result out.new ≡ unified_rows n t out.old (rows_of a.now) (rows_of b.now) }
 {
     combined_reply(unify::unify(n, sets, cells, a, b, out))
 }
 
 // The reply that tells the answer of a combination.
 fn combined_reply(combined: Combined) -> Reply
-    ensures { result ≡ combinedReply combined }
+    ensures { result ≡ combined_reply combined }
 {
     match combined {
         Combined::Written(written) => replies::reply_of(written),

@@ -27,7 +27,7 @@ use Rattle.replies.specs.Reply.{Result, length_of}
 use Rattle.demands.specs.Demand.{WrittenRecord, Large, common}
 use Rattle.gathering.specs.Gathering.{state_of, joining, adding, comparing, finishing}
 use Rattle.gathering.proofs.Told.{length-told}
-use Rattle.gathered.specs.Calls.{Call, add, order, finish, stateAfter, keptWhere, additions, blank, taken, instead, folded}
+use Rattle.gathered.specs.Calls.{Call, add, order, finish, state_after, kept_where, additions, blank, taken, instead, folded}
 use Rattle.gathered.specs.Theorem.{bytes_of, Holds}
 use Rattle.gathered.specs.Due.{NewPart, AddDue, AddedDue, OrderDue, FinishedDue, Folds}
 use Rattle.gathered.specs.Due as due
@@ -35,7 +35,7 @@ use Rattle.gathered.proofs.Mixture.{adding-kept}
 use Rattle.gathered.proofs.Records.{length-blank, written-short, taken-fitted}
 use Rattle.gathered.proofs.Holding.{gathered-are, adding-answer, comparing-is, adding-holds}
 use Rattle.gathered.proofs.Theorems.{calls-hold, finish-is, finish-nothing, addition-state}
-use Rattle.gathered.proofs.Exact.{fittedBy, fitted_short, fitted-whole, joining-new, joining-exact, compared-exact}
+use Rattle.gathered.proofs.Exact.{fitted_by, fitted_short, fitted-whole, joining-new, joining-exact, compared-exact}
 
 table-both : {X : Type 0} {x : Opened} {fault : TableFault} → x ≡ Accepted → x ≡ Refused fault → X
 table-both opens e = let z : ◌≡◌ {A = ℕ} 0 1 = cc (opens, e) in absurd (omega arith)
@@ -147,7 +147,7 @@ module _ (n : ℕ) (t state : List ℕ) (o : Option (List ℕ)) (holds : Holds n
     unfolding fitted
     finished-due = held o refl
       where
-        room : (part : List ℕ) → o ≡ some part → (b : Bool) → leb (length part) (length out) ≡ b → FinishedDue o (length out) (fittedBy part out b).reply
+        room : (part : List ℕ) → o ≡ some part → (b : Bool) → leb (length part) (length out) ≡ b → FinishedDue o (length out) (fitted_by part out b).reply
         room part is true e = due.fits part is (leb-true (length part) (length out) e)
         room part is false e = due.no_room part is (leb-false (length part) (length out) e)
 
@@ -195,8 +195,8 @@ module _ (n : ℕ) (t : List ℕ) where
       go : (l : Option ℕ) → length_of (adding state bytes).reply ≡ l →
           ((p : Option (List ℕ)) → Holds n t (adding state bytes).output p →
           Folds n t p (additions (adding state bytes).output cs) (folded n t p (additions (adding state bytes).output cs))) →
-          Folds n t o (keptWhere l bytes (additions (adding state bytes).output cs))
-          (folded n t o (keptWhere l bytes (additions (adding state bytes).output cs)))
+          Folds n t o (kept_where l bytes (additions (adding state bytes).output cs))
+          (folded n t o (kept_where l bytes (additions (adding state bytes).output cs)))
       go none e more = more o (subst (λ (s : List ℕ). Holds n t s o) (sym (adding-kept state bytes e)) holds)
       go (some l) e more =
           let (new, one, long) = (added-length n t state o holds bytes l).0 (length-told (adding state bytes).reply l e) in
@@ -219,11 +219,11 @@ module _ (n : ℕ) (t : List ℕ) where
 
   -- After any calls the state holds exactly the fold of the accepted additions.
   pub calls-fold-exact : (cs : List Call) (state : List ℕ) (o : Option (List ℕ)) → Holds n t state o → (last : Option (List ℕ)) →
-      Holds n t (stateAfter state cs) last ↔ Folds n t o (additions state cs) last
+      Holds n t (state_after state cs) last ↔ Folds n t o (additions state cs) last
   calls-fold-exact cs state o holds last =
-      let after : Holds n t (stateAfter state cs) (folded n t o (additions state cs)) = calls-hold n t cs state o holds in (
+      let after : Holds n t (state_after state cs) (folded n t o (additions state cs)) = calls-hold n t cs state o holds in (
         λ held. subst (Folds n t o (additions state cs))
-            (sym (gathered-are n t (stateAfter state cs) (folded n t o (additions state cs)) after) ∙ gathered-are n t (stateAfter state cs) last held)
+            (sym (gathered-are n t (state_after state cs) (folded n t o (additions state cs)) after) ∙ gathered-are n t (state_after state cs) last held)
             (calls-fold cs state o holds),
-        λ folds. subst (Holds n t (stateAfter state cs)) (fold-one holds.opens o (additions state cs) last folds) after,
+        λ folds. subst (Holds n t (state_after state cs)) (fold-one holds.opens o (additions state cs) last folds) after,
       )

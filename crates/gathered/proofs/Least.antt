@@ -14,18 +14,18 @@ use Rattle.lattice.specs.Label.{Label}
 use Rattle.lattice.specs.Table as table
 use Rattle.acceptance.specs.declared.Opened.TheVariants.{Accepted}
 use Rattle.acceptance.specs.Reply.{opened}
-use Rattle.lattice.specs.Labels.{tableLabels, OfAnySize}
+use Rattle.lattice.specs.Labels.{table_labels, OfAnySize}
 use Rattle.lattice.proofs.AnySize.{below-transitive, below_both}
 use Rattle.acceptance.proofs.Acceptance.{opened-accepted}
-use Rattle.record.specs.Read.{Reading, refused, accepted, reading, graphOfRows}
+use Rattle.record.specs.Read.{Reading, refused, accepted, reading, graph_of_rows}
 use Rattle.record.proofs.Theorems.{accepted-of-any-size}
 use Rattle.record.proofs.Accepted.{accepted-injective}
 use Rattle.replies.specs.Reply.{Result, length_of}
 use Rattle.demands.specs.Demand.{WrittenRecord, CommonPart, Rewritten}
 use Rattle.demands.proofs.Demands.{common-part, rewriting-means, written-one-form}
-use Rattle.gathering.specs.Gathering.{twoBytes, state_of, joining, settledBy, adding}
+use Rattle.gathering.specs.Gathering.{two_bytes, state_of, joining, settled_by, adding}
 use Rattle.gathering.proofs.Told.{none-some, length-told}
-use Rattle.gathered.specs.Calls.{Call, add, order, finish, keptWhere, additions, blank, takenBy, taken, instead, folded}
+use Rattle.gathered.specs.Calls.{Call, add, order, finish, kept_where, additions, blank, taken_by, taken, instead, folded}
 use Rattle.gathered.specs.Theorem.{bytes_of, Holds, AllBelow, LeastAbove}
 use Rattle.gathered.proofs.Mixture.{adding-kept}
 use Rattle.gathered.proofs.Records.{rewriting-refused, generalizing-refused, joining-leaves, joining-room}
@@ -35,16 +35,16 @@ module _ (n : ℕ) (t : List ℕ) (opens : opened n t ≡ Accepted) where
   ok : table.accepted n t ≡ true
   ok = opened-accepted n t (opened n t) refl opens
 
-  sized : (p : List ℕ) (rows : List (Row Label)) → reading n p ≡ accepted rows → OfAnySize n t (graphOfRows rows)
+  sized : (p : List ℕ) (rows : List (Row Label)) → reading n p ≡ accepted rows → OfAnySize n t (graph_of_rows rows)
   sized p rows e = accepted-of-any-size n p rows e t
 
   all_cons : {D : Type 0} (m : Graph Label D) (p : List ℕ) (rows : List (Row Label)) (ps : List (List ℕ)) → reading n p ≡ accepted rows →
-      Below (tableLabels n t) (graphOfRows rows) m → AllBelow n t ps m → AllBelow n t (p ∷ ps) m
+      Below (table_labels n t) (graph_of_rows rows) m → AllBelow n t ps m → AllBelow n t (p ∷ ps) m
   all_cons m p rows ps e b more x mem others d =
       ⊎_elim
       (λ same.
       let rows_same : rows ≡ others = accepted-injective (sym e ∙ ap (reading n) (sym same) ∙ d) in
-      subst (λ (r : List (Row Label)). Below (tableLabels n t) (graphOfRows r) m) rows_same b)
+      subst (λ (r : List (Row Label)). Below (table_labels n t) (graph_of_rows r) m) rows_same b)
       (λ inside. more x inside others d) (Memᴰ.cases_cons mem)
 
   abbrev AllRead : List (List ℕ) → Type 0
@@ -58,20 +58,20 @@ module _ (n : ℕ) (t : List ℕ) (opens : opened n t ≡ Accepted) where
   all_tail m p ps all x mem = all x (Memᴰ.tail mem)
 
   all_head : {D : Type 0} (m : Graph Label D) (p : List ℕ) (ps : List (List ℕ)) (rows : List (Row Label)) → AllBelow n t (p ∷ ps) m →
-      reading n p ≡ accepted rows → Below (tableLabels n t) (graphOfRows rows) m
+      reading n p ≡ accepted rows → Below (table_labels n t) (graph_of_rows rows) m
   all_head m p ps rows all e = all p (Memᴰ.head refl) rows e
 
   -- A record is the least above itself alone.
   least-itself : (p : List ℕ) (rows : List (Row Label)) → reading n p ≡ accepted rows → LeastAbove n t (p ∷ []) p
   least-itself p rows e =
-      let itself : Below (tableLabels n t) (graphOfRows rows) (graphOfRows rows) =
-      ((below_both n t ok (graphOfRows rows) (graphOfRows rows) (sized p rows e) (sized p rows e)).0 (same_refl (graphOfRows rows))).0 in
+      let itself : Below (table_labels n t) (graph_of_rows rows) (graph_of_rows rows) =
+      ((below_both n t ok (graph_of_rows rows) (graph_of_rows rows) (sized p rows e) (sized p rows e)).0 (same_refl (graph_of_rows rows))).0 in
       record {
         all-accepted = read-cons p rows [] e (λ x mem. absurd (Memᴰ.not-nil mem));
         form = rows;
         reads = e;
         of-any-size = sized p rows e;
-        above = all_cons (graphOfRows rows) p rows [] e itself (λ x mem. absurd (Memᴰ.not-nil mem));
+        above = all_cons (graph_of_rows rows) p rows [] e itself (λ x mem. absurd (Memᴰ.not-nil mem));
         least = λ m size all. all_head m p [] rows all e;
       }
 
@@ -79,8 +79,8 @@ module _ (n : ℕ) (t : List ℕ) (opens : opened n t ≡ Accepted) where
   least-common : (b part c q : List ℕ) (rows form : List (Row Label)) (more : List (List ℕ)) → reading n b ≡ accepted rows → reading n part ≡ accepted form →
       CommonPart n t b part rows form c → LeastAbove n t (c ∷ more) q → LeastAbove n t (part ∷ b ∷ more) q
   least-common b part c q rows form more e d common best =
-      let whole : Graph Label ℕ = graphOfRows best.form in
-      let over : Below (tableLabels n t) (graphOfRows common.form) whole = all_head whole c more common.form best.above common.reads in
+      let whole : Graph Label ℕ = graph_of_rows best.form in
+      let over : Below (table_labels n t) (graph_of_rows common.form) whole = all_head whole c more common.form best.above common.reads in
       record {
         all-accepted = read-cons part form (b ∷ more) d (read-cons b rows more e (λ x mem. best.all-accepted x (Memᴰ.tail mem)));
         form = best.form;
@@ -88,10 +88,10 @@ module _ (n : ℕ) (t : List ℕ) (opens : opened n t ≡ Accepted) where
         of-any-size = best.of-any-size;
         above =
             all_cons whole part form (b ∷ more) d
-            (below-transitive n t ok (graphOfRows form) (graphOfRows common.form) whole (sized part form d) common.least.of-any-size
+            (below-transitive n t ok (graph_of_rows form) (graph_of_rows common.form) whole (sized part form d) common.least.of-any-size
             best.of-any-size common.least.right over)
             (all_cons whole b rows more e
-            (below-transitive n t ok (graphOfRows rows) (graphOfRows common.form) whole (sized b rows e) common.least.of-any-size
+            (below-transitive n t ok (graph_of_rows rows) (graph_of_rows common.form) whole (sized b rows e) common.least.of-any-size
             best.of-any-size common.least.left over)
             (all_tail whole c more best.above));
         least = λ m size all.
@@ -105,10 +105,10 @@ module _ (n : ℕ) (t : List ℕ) (opens : opened n t ≡ Accepted) where
   least-rewritten : (b c q : List ℕ) (rows : List (Row Label)) (more : List (List ℕ)) → reading n b ≡ accepted rows → Rewritten n t b rows c →
       LeastAbove n t (c ∷ more) q → LeastAbove n t (b ∷ more) q
   least-rewritten b c q rows more e again best =
-      let whole : Graph Label ℕ = graphOfRows best.form in
+      let whole : Graph Label ℕ = graph_of_rows best.form in
       let form : List (Row Label) = again.is-record.is-written.form in
       let d : reading n c ≡ accepted form = again.is-record.is-written.reads in
-      let (there, back) = (below_both n t ok (graphOfRows rows) (graphOfRows form) (sized b rows e) (sized c form d)).0 again.is-record.means in
+      let (there, back) = (below_both n t ok (graph_of_rows rows) (graph_of_rows form) (sized b rows e) (sized c form d)).0 again.is-record.means in
       record {
         all-accepted = read-cons b rows more e (λ x mem. best.all-accepted x (Memᴰ.tail mem));
         form = best.form;
@@ -116,13 +116,13 @@ module _ (n : ℕ) (t : List ℕ) (opens : opened n t ≡ Accepted) where
         of-any-size = best.of-any-size;
         above =
             all_cons whole b rows more e
-            (below-transitive n t ok (graphOfRows rows) (graphOfRows form) whole (sized b rows e) (sized c form d) best.of-any-size there
+            (below-transitive n t ok (graph_of_rows rows) (graph_of_rows form) whole (sized b rows e) (sized c form d) best.of-any-size there
             (all_head whole c more form best.above d))
             (all_tail whole c more best.above);
         least = λ m size all.
             best.least m size
             (all_cons m c form more d
-            (below-transitive n t ok (graphOfRows form) (graphOfRows rows) m (sized c form d) (sized b rows e) size back (all_head m b more rows all e))
+            (below-transitive n t ok (graph_of_rows form) (graph_of_rows rows) m (sized c form d) (sized b rows e) size back (all_head m b more rows all e))
             (all_tail m b more all));
       }
 
@@ -137,7 +137,7 @@ module _ (n : ℕ) (t : List ℕ) (opens : opened n t ≡ Accepted) where
 
     is-taken : taken (joining n t o bytes blank) ≡ some (take l joined.output)
     is-taken =
-        sym (joining-room n t opens o holds.written bytes (bytes_of o ++ holds.rest) holds.room) ∙ ap (λ (m : Option ℕ). takenBy m joined) told
+        sym (joining-room n t opens o holds.written bytes (bytes_of o ++ holds.rest) holds.room) ∙ ap (λ (m : Option ℕ). taken_by m joined) told
 
     next : Holds n t (adding state bytes).output (some (take l joined.output))
     next = subst (λ (x : Option (List ℕ)). Holds n t (adding state bytes).output (instead o x)) is-taken (adding-holds n t state o holds bytes)
@@ -153,13 +153,13 @@ module _ (n : ℕ) (t : List ℕ) (opens : opened n t ≡ Accepted) where
         let long : length c ≡ l = leaves.length-is l is-length in
         let output-is : joined.output ≡ c ++ drop l (bytes_of o ++ holds.rest) =
         sym (take-append-drop l joined.output) ∙ ap (λ (x : List ℕ). c ++ x) (leaves.others l is-length) in
-        let written_is : (adding state bytes).output ≡ (n ∷ t) ++ (twoBytes l ++ joined.output) =
-        ap (λ (y : Result). y.output) (adding-is n t state o holds bytes) ∙ ap (λ (m : Option ℕ). (settledBy state m joined).output) told ∙
-        ap (λ (x : List ℕ). x ++ (twoBytes l ++ joined.output)) (head-are n t state o holds) in (
+        let written_is : (adding state bytes).output ≡ (n ∷ t) ++ (two_bytes l ++ joined.output) =
+        ap (λ (y : Result). y.output) (adding-is n t state o holds bytes) ∙ ap (λ (m : Option ℕ). (settled_by state m joined).output) told ∙
+        ap (λ (x : List ℕ). x ++ (two_bytes l ++ joined.output)) (head-are n t state o holds) in (
           c,
           is-taken,
-          written_is ∙ ap (λ (x : List ℕ). (n ∷ t) ++ (twoBytes l ++ x)) output-is ∙
-              ap (λ (k : ℕ). n ∷ (t ++ (twoBytes k ++ (c ++ drop k (bytes_of o ++ holds.rest))))) (sym long),
+          written_is ∙ ap (λ (x : List ℕ). (n ∷ t) ++ (two_bytes l ++ x)) output-is ∙
+              ap (λ (k : ℕ). n ∷ (t ++ (two_bytes k ++ (c ++ drop k (bytes_of o ++ holds.rest))))) (sym long),
         )
 
     program : (rows : List (Row Label)) × (reading n bytes ≡ accepted rows)
@@ -187,8 +187,8 @@ module _ (n : ℕ) (t : List ℕ) (opens : opened n t ≡ Accepted) where
       go : (l : Option ℕ) → length_of (adding state bytes).reply ≡ l →
           ((c : List ℕ) → Holds n t (adding state bytes).output (some c) →
           Gathered (some c) (additions (adding state bytes).output cs) (c ∷ additions (adding state bytes).output cs)) →
-          Gathered (some part) (keptWhere l bytes (additions (adding state bytes).output cs))
-          (part ∷ keptWhere l bytes (additions (adding state bytes).output cs))
+          Gathered (some part) (kept_where l bytes (additions (adding state bytes).output cs))
+          (part ∷ kept_where l bytes (additions (adding state bytes).output cs))
       go none e more = more part (subst (λ (s : List ℕ). Holds n t s (some part)) (sym (adding-kept state bytes e)) holds)
       go (some l) e more =
           let one : WrittenRecord n part = holds.written part refl in
@@ -218,8 +218,8 @@ module _ (n : ℕ) (t : List ℕ) (opens : opened n t ≡ Accepted) where
           (Holds n t (adding state bytes).output none →
           (additions (adding state bytes).output cs ≡ []) ⊎
           Gathered none (additions (adding state bytes).output cs) (additions (adding state bytes).output cs)) →
-          (keptWhere l bytes (additions (adding state bytes).output cs) ≡ []) ⊎
-          Gathered none (keptWhere l bytes (additions (adding state bytes).output cs)) (keptWhere l bytes (additions (adding state bytes).output cs))
+          (kept_where l bytes (additions (adding state bytes).output cs) ≡ []) ⊎
+          Gathered none (kept_where l bytes (additions (adding state bytes).output cs)) (kept_where l bytes (additions (adding state bytes).output cs))
       go none e more = more (subst (λ (s : List ℕ). Holds n t s none) (sym (adding-kept state bytes e)) holds)
       go (some l) e more =
           let (rows, reads) = program state none holds bytes l e in
@@ -240,14 +240,14 @@ module _ (n : ℕ) (t : List ℕ) (opens : opened n t ≡ Accepted) where
   pub least-once : (ps qs : List (List ℕ)) (a b : List ℕ) → ((p : List ℕ) → Memᴰ p ps ↔ Memᴰ p qs) → WrittenRecord n a → WrittenRecord n b →
       LeastAbove n t ps a → LeastAbove n t qs b → a ≡ b
   least-once ps qs a b same one other x y =
-      let there : Below (tableLabels n t) (graphOfRows x.form) (graphOfRows y.form) =
-      x.least (graphOfRows y.form) y.of-any-size (λ p mem rows e. y.above p ((same p).0 mem) rows e) in
-      let back : Below (tableLabels n t) (graphOfRows y.form) (graphOfRows x.form) =
-      y.least (graphOfRows x.form) x.of-any-size (λ p mem rows e. x.above p ((same p).1 mem) rows e) in
-      let means : SameMeaning (tableLabels n t) (graphOfRows x.form) (graphOfRows y.form) =
-      (below_both n t ok (graphOfRows x.form) (graphOfRows y.form) x.of-any-size y.of-any-size).1 (there, back) in
+      let there : Below (table_labels n t) (graph_of_rows x.form) (graph_of_rows y.form) =
+      x.least (graph_of_rows y.form) y.of-any-size (λ p mem rows e. y.above p ((same p).0 mem) rows e) in
+      let back : Below (table_labels n t) (graph_of_rows y.form) (graph_of_rows x.form) =
+      y.least (graph_of_rows x.form) x.of-any-size (λ p mem rows e. x.above p ((same p).1 mem) rows e) in
+      let means : SameMeaning (table_labels n t) (graph_of_rows x.form) (graph_of_rows y.form) =
+      (below_both n t ok (graph_of_rows x.form) (graph_of_rows y.form) x.of-any-size y.of-any-size).1 (there, back) in
       (written-one-form n t a one b other).0
-      (subst (λ (r : List (Row Label)). SameMeaning (tableLabels n t) (graphOfRows r) (graphOfRows other.form))
+      (subst (λ (r : List (Row Label)). SameMeaning (table_labels n t) (graph_of_rows r) (graph_of_rows other.form))
       (accepted-injective (sym x.reads ∙ one.reads))
-      (subst (λ (r : List (Row Label)). SameMeaning (tableLabels n t) (graphOfRows x.form) (graphOfRows r))
+      (subst (λ (r : List (Row Label)). SameMeaning (table_labels n t) (graph_of_rows x.form) (graph_of_rows r))
       (accepted-injective (sym y.reads ∙ other.reads)) means))

@@ -14,15 +14,15 @@ use Rattle.acceptance.specs.declared.Opened.TheVariants.{Refused}
 use Rattle.acceptance.specs.Reply.{opened}
 use Rattle.encode.specs.Encode.{fitted}
 use Rattle.record.specs.declared.GraphFault.{GraphFault}
-use Rattle.record.specs.Read.{reading, accepted, refused, graphOfRows}
+use Rattle.record.specs.Read.{reading, accepted, refused, graph_of_rows}
 use Rattle.replies.specs.declared.Side.TheVariants.{First}
 use Rattle.replies.specs.declared.Reply.{Reply}
 use Rattle.replies.specs.declared.Reply.TheVariants.{Length, Table, Graph, NoRoom, TooLarge, NothingGathered}
 use Rattle.replies.specs.Reply.{refusing, result_of, refusal}
 use Rattle.calls.specs.Calls.{rewriting, ordering}
 use Rattle.demands.specs.Demand.{WrittenRecord, RecordOf, Large, common}
-use Rattle.gathering.specs.Gathering.{twoBytes, begun, types_in, tableIn, headIn, roomIn, gatheredIn, adding, comparing, finishing}
-use Rattle.gathered.specs.Calls.{Call, order, finish, called, stateAfter, additions, alone, folded}
+use Rattle.gathering.specs.Gathering.{two_bytes, begun, types_in, table_in, head_in, room_in, gathered_in, adding, comparing, finishing}
+use Rattle.gathered.specs.Calls.{Call, order, finish, called, state_after, additions, alone, folded}
 use Rattle.gathered.specs.Theorem.{Holds, LeastAbove}
 use Rattle.gathered.specs.Due.{NewPart, BeginDue, AddDue, AddedDue, OrderDue, FinishDue, FinishedDue, Folds}
 use Rattle.gathered.proofs.Theorems as Theorems
@@ -50,31 +50,31 @@ finish-refused = Theorems.finish-unchanged
 
 -- An addition checks the table's 1 to 3, the program's 4 to 7 as the first graph, the 4 to 7 of what is gathered as the second, then 11 and 8.
 pub add-exact : (state bytes : List ℕ) (r : Reply) →
-    ((adding state bytes).reply ≡ r) ↔ AddDue (types_in state) (tableIn state) (gatheredIn state) bytes (length (roomIn state)) r
+    ((adding state bytes).reply ≡ r) ↔ AddDue (types_in state) (table_in state) (gathered_in state) bytes (length (room_in state)) r
 add-exact = Exact.add-exact
 
 -- An addition that is answered by a length leaves n and the table, the length, the record of the new common part, and the other bytes as they
 -- were.
 pub add-leaves : (state bytes : List ℕ) (l : ℕ) → (adding state bytes).reply ≡ Length l →
-    (new : List ℕ) × NewPart (types_in state) (tableIn state) (gatheredIn state) bytes new × (length new ≡ l) ×
-    ((adding state bytes).output ≡ headIn state ++ (twoBytes l ++ (new ++ drop l (roomIn state))))
+    (new : List ℕ) × NewPart (types_in state) (table_in state) (gathered_in state) bytes new × (length new ≡ l) ×
+    ((adding state bytes).output ≡ head_in state ++ (two_bytes l ++ (new ++ drop l (room_in state))))
 add-leaves = Exact.add-leaves
 
 -- "learn its order, as first graph, to the common part of those added so far": an order checks the table's 1 to 3 and the program's 4 to 7, then
 -- 16, then the 4 to 7 of what is gathered as the second graph; then it is one of the four answers.
 pub order-exact : (state bytes : List ℕ) (r : Reply) →
-    (comparing state bytes ≡ r) ↔ OrderDue (types_in state) (tableIn state) (gatheredIn state) bytes r
+    (comparing state bytes ≡ r) ↔ OrderDue (types_in state) (table_in state) (gathered_in state) bytes r
 order-exact = Exact.order-exact
 
 -- A finish checks the table's 1 to 3, then 16, the 4 to 7 of what is gathered as the second graph, and 8.
 pub finish-exact : (state out : List ℕ) (r : Reply) →
-    ((finishing state out).reply ≡ r) ↔ FinishDue (types_in state) (tableIn state) (gatheredIn state) (length out) r
+    ((finishing state out).reply ≡ r) ↔ FinishDue (types_in state) (table_in state) (gathered_in state) (length out) r
 finish-exact = Exact.finish-exact
 
 -- A finish that is answered by a length writes the record of what is gathered, and the other bytes stay as they were.
 pub finish-leaves : (state out : List ℕ) (l : ℕ) → (finishing state out).reply ≡ Length l →
-    (part : List ℕ) × (rows : List (Row Label)) × (new : List ℕ) × (gatheredIn state ≡ some part) × (reading (types_in state) part ≡ accepted rows) ×
-    RecordOf (types_in state) (tableIn state) (graphOfRows rows) new × (length new ≡ l) × ((finishing state out).output ≡ new ++ drop l out)
+    (part : List ℕ) × (rows : List (Row Label)) × (new : List ℕ) × (gathered_in state ≡ some part) × (reading (types_in state) part ≡ accepted rows) ×
+    RecordOf (types_in state) (table_in state) (graph_of_rows rows) new × (length new ≡ l) × ((finishing state out).output ≡ new ++ drop l out)
 finish-leaves = Exact.finish-leaves
 
 module _ (n : ℕ) (t buffer : List ℕ) where
@@ -106,7 +106,7 @@ module _ (n : ℕ) (t buffer : List ℕ) where
     start = (begun n t buffer).output
 
     abbrev state : List ℕ
-    state = stateAfter start cs
+    state = state_after start cs
 
     abbrev programs : List (List ℕ)
     programs = additions start cs
@@ -115,7 +115,7 @@ module _ (n : ℕ) (t buffer : List ℕ) where
     holds = Theorems.begun-holds n t buffer l begins
 
     -- "The state after any such mixture is what the accepted additions alone .. give", byte for byte. Made alone, all of them are accepted again.
-    pub mixture-alone : stateAfter start cs ≡ stateAfter start (alone (additions start cs))
+    pub mixture-alone : state_after start cs ≡ state_after start (alone (additions start cs))
     mixture-alone = Theorems.mixture cs start
 
     pub mixture-accepted : additions start (alone (additions start cs)) ≡ additions start cs
@@ -123,50 +123,50 @@ module _ (n : ℕ) (t buffer : List ℕ) where
 
     -- "folded in their order": the state holds the fold of the accepted additions. The gathering "keeps" its table and "can hold the longest
     -- record".
-    pub mixture-folded : Holds n t (stateAfter start cs) (folded n t none (additions start cs))
+    pub mixture-folded : Holds n t (state_after start cs) (folded n t none (additions start cs))
     mixture-folded = Theorems.calls-hold n t cs start none holds
 
     -- The fold is that of common parts: the state holds `last` exactly where `last` is made from the accepted additions by one new common part
     -- after the other.
-    pub mixture-folds : (last : Option (List ℕ)) → Holds n t (stateAfter start cs) last ↔ Folds n t none (additions start cs) last
+    pub mixture-folds : (last : Option (List ℕ)) → Holds n t (state_after start cs) last ↔ Folds n t none (additions start cs) last
     mixture-folds = Begun.calls-fold-exact n t cs start none holds
 
     -- "so an addition is refused by 4 to 7 or 11 alone": each reply is given exactly where it is due, the program's 4 to 7, 11, or the length of
     -- the new common part's record.
-    pub added-exact : (bytes : List ℕ) (r : Reply) → ((adding (stateAfter start cs) bytes).reply ≡ r) ↔ AddedDue n t (folded n t none (additions start cs)) bytes r
+    pub added-exact : (bytes : List ℕ) (r : Reply) → ((adding (state_after start cs) bytes).reply ≡ r) ↔ AddedDue n t (folded n t none (additions start cs)) bytes r
     added-exact = Begun.added-exact n t state (folded n t none programs) mixture-folded
 
     -- The same, number by number: 4 to 7 exactly where reading the program gives them.
-    pub added-program : (bytes : List ℕ) (fault : GraphFault) → ((adding (stateAfter start cs) bytes).reply ≡ Graph fault First) ↔ (reading n bytes ≡ refused fault)
+    pub added-program : (bytes : List ℕ) (fault : GraphFault) → ((adding (state_after start cs) bytes).reply ≡ Graph fault First) ↔ (reading n bytes ≡ refused fault)
     added-program = Begun.added-program n t state (folded n t none programs) mixture-folded
 
     -- 11 exactly where the common part of the program and what is gathered is too large.
-    pub added-too-large : (bytes : List ℕ) → ((adding (stateAfter start cs) bytes).reply ≡ TooLarge) ↔
+    pub added-too-large : (bytes : List ℕ) → ((adding (state_after start cs) bytes).reply ≡ TooLarge) ↔
         ((part : List ℕ) × (rows : List (Row Label)) × (others : List (Row Label)) × (folded n t none (additions start cs) ≡ some part) ×
         (reading n bytes ≡ accepted rows) × (reading n part ≡ accepted others) × Large (common n t rows others))
     added-too-large = Begun.added-too-large n t state (folded n t none programs) mixture-folded
 
     -- A length exactly where there is a new common part of that length.
-    pub added-length : (bytes : List ℕ) (l : ℕ) → ((adding (stateAfter start cs) bytes).reply ≡ Length l) ↔
+    pub added-length : (bytes : List ℕ) (l : ℕ) → ((adding (state_after start cs) bytes).reply ≡ Length l) ↔
         ((new : List ℕ) × NewPart n t (folded n t none (additions start cs)) bytes new × (length new ≡ l))
     added-length = Begun.added-length n t state (folded n t none programs) mixture-folded
 
     -- The order, and 4 to 7 of the program for it, exactly where they are due.
-    pub ordered-exact : (bytes : List ℕ) (r : Reply) → (comparing (stateAfter start cs) bytes ≡ r) ↔ OrderDue n t (folded n t none (additions start cs)) bytes r
+    pub ordered-exact : (bytes : List ℕ) (r : Reply) → (comparing (state_after start cs) bytes ≡ r) ↔ OrderDue n t (folded n t none (additions start cs)) bytes r
     ordered-exact = Begun.ordered-exact n t state (folded n t none programs) mixture-folded
 
-    pub ordered-program : (bytes : List ℕ) (fault : GraphFault) → (comparing (stateAfter start cs) bytes ≡ Graph fault First) ↔ (reading n bytes ≡ refused fault)
+    pub ordered-program : (bytes : List ℕ) (fault : GraphFault) → (comparing (state_after start cs) bytes ≡ Graph fault First) ↔ (reading n bytes ≡ refused fault)
     ordered-program = Begun.ordered-program n t state (folded n t none programs) mixture-folded
 
     -- A finish answers 16 where nothing is gathered, 8 where the output is shorter than the record that is gathered, and else its length, each
     -- exactly there.
-    pub finished-exact : (out : List ℕ) (r : Reply) → ((finishing (stateAfter start cs) out).reply ≡ r) ↔ FinishedDue (folded n t none (additions start cs)) (length out) r
+    pub finished-exact : (out : List ℕ) (r : Reply) → ((finishing (state_after start cs) out).reply ≡ r) ↔ FinishedDue (folded n t none (additions start cs)) (length out) r
     finished-exact = Begun.finished-exact n t state (folded n t none programs) mixture-folded
 
     -- "Finishing writes the common part": what is written beside a length is a written record, and it is the fold of the accepted additions.
-    pub finished-leaves : (out : List ℕ) (l : ℕ) → (finishing (stateAfter start cs) out).reply ≡ Length l →
+    pub finished-leaves : (out : List ℕ) (l : ℕ) → (finishing (state_after start cs) out).reply ≡ Length l →
         (part : List ℕ) × (folded n t none (additions start cs) ≡ some part) × WrittenRecord n part × (length part ≡ l) ×
-        ((finishing (stateAfter start cs) out).output ≡ part ++ drop l out)
+        ((finishing (state_after start cs) out).output ≡ part ++ drop l out)
     finished-leaves = Begun.finished-leaves n t state (folded n t none programs) mixture-folded
 
     -- "so an addition is refused by 4 to 7 or 11 alone"
@@ -175,11 +175,11 @@ module _ (n : ℕ) (t buffer : List ℕ) where
 
     -- "Order or finish before the first addition is 16, checked after the graph's 4 to 7 and before 8": 16 is given exactly before the first
     -- accepted addition.
-    pub order-before-first : (bytes : List ℕ) → (comparing (stateAfter start cs) bytes ≡ NothingGathered) ↔
+    pub order-before-first : (bytes : List ℕ) → (comparing (state_after start cs) bytes ≡ NothingGathered) ↔
         ((additions start cs ≡ []) × ((rows : List (Row Label)) × (reading n bytes ≡ accepted rows)))
     order-before-first = Theorems.order-before n t cs start holds
 
-    pub finish-before-first : (out : List ℕ) → ((finishing (stateAfter start cs) out).reply ≡ NothingGathered) ↔ (additions start cs ≡ [])
+    pub finish-before-first : (out : List ℕ) → ((finishing (state_after start cs) out).reply ≡ NothingGathered) ↔ (additions start cs ≡ [])
     finish-before-first = Theorems.finish-before n t cs start holds
 
     -- An order is refused only by 4 to 7 and 16, and a finish only by 16 and 8.
@@ -193,13 +193,13 @@ module _ (n : ℕ) (t buffer : List ℕ) where
     -- The order of a program is told, "as first graph, to the common part of those added so far".
     pub finish-writes-least : (additions start cs ≡ [] → ⊥) →
         (part : List ℕ) × LeastAbove n t (additions start cs) part ×
-        ((out : List ℕ) → finishing (stateAfter start cs) out ≡ result_of (fitted part out)) ×
-        ((bytes : List ℕ) → comparing (stateAfter start cs) bytes ≡ ordering n t bytes part)
+        ((out : List ℕ) → finishing (state_after start cs) out ≡ result_of (fitted part out)) ×
+        ((bytes : List ℕ) → comparing (state_after start cs) bytes ≡ ordering n t bytes part)
     finish-writes-least = Theorems.finish-least n t cs start holds
 
     -- After one accepted addition, finishing gives what rewriting that program gives.
     pub finish-writes-one : (p : List ℕ) → additions start cs ≡ p ∷ [] →
-        (out : List ℕ) → finishing (stateAfter start cs) out ≡ rewriting n t p out
+        (out : List ℕ) → finishing (state_after start cs) out ≡ rewriting n t p out
     finish-writes-one = Theorems.finish-one n t cs start holds
 
     -- Two gatherings over the table that accept the same programs, in whatever orders, gather the same record.

@@ -11,7 +11,7 @@ use lib.Dec.{leb, eqb}
 use lib.ListN.{length, drop, length-replicate}
 use lib.Seq.{take-append_seam}
 use Rattle.graphs.specs.Graph.{Graph}
-use Rattle.graphs.specs.Number.{Canonical, canonical, manyNodes, manyLinks, written}
+use Rattle.graphs.specs.Number.{Canonical, canonical, many_nodes, many_links, written}
 use Rattle.graphs.specs.Rows.{Row}
 use Rattle.graphs.specs.OfRows.{same_pair}
 use Rattle.lattice.specs.Label.{Label}
@@ -19,10 +19,10 @@ use Rattle.acceptance.specs.declared.Opened.TheVariants.{Accepted}
 use Rattle.acceptance.specs.Reply.{opened}
 use Rattle.encoder.specs.Encode.{encoded}
 use Rattle.encode.specs.declared.Written.TheVariants as outcome
-use Rattle.encode.specs.Encode.{fitted, yielding, writtenOut}
+use Rattle.encode.specs.Encode.{fitted, yielding, written_out}
 use Rattle.encoder.proofs.Lengths.{longest}
 use Rattle.record.specs.declared.GraphFault.{GraphFault}
-use Rattle.record.specs.Read.{Reading, refused, reading, accepted, graphOfRows}
+use Rattle.record.specs.Read.{Reading, refused, reading, accepted, graph_of_rows}
 use Rattle.record.proofs.Accepted.{accepted-rules}
 use Rattle.replies.specs.declared.Side.TheVariants.{First}
 use Rattle.replies.specs.declared.Reply.{Reply}
@@ -31,7 +31,7 @@ use Rattle.replies.specs.Reply.{Result, refusing, result_of, length_of}
 use Rattle.engine.specs.Generalizing.{generalized}
 use Rattle.calls.specs.Calls.{generalizing, rewriting}
 use Rattle.demands.specs.Demand.{Given, WrittenRecord, Leaves, common}
-use Rattle.demands.proofs.Results.{resultFor, rewriting-is}
+use Rattle.demands.proofs.Results.{result_for, rewriting-is}
 use Rattle.demands.proofs.Demands.{length-bounded, rewriting-leaves, generalizing-leaves, rewriting-never-large}
 use Rattle.gathering.specs.Gathering.{joining}
 use Rattle.gathering.proofs.Told.{none-some}
@@ -59,31 +59,31 @@ taken-fitted p out h =
     ap some (take-append_seam p (drop (length p) out))
 
 -- the record of a written form, whatever its length
-abbrev pub recordOf : Canonical Label → Option (List ℕ)
-recordOf manyNodes = none
-recordOf manyLinks = none
-recordOf (written rows) = some (encoded rows)
+abbrev pub record_of : Canonical Label → Option (List ℕ)
+record_of many_nodes = none
+record_of many_links = none
+record_of (written rows) = some (encoded rows)
 
 -- Facts on a call that writes a graph.
 module _ (n : ℕ) {C : Type 0} (same : C → C → Bool) (k : Graph Label C) (call : List ℕ → Result) (leaves : (out : List ℕ) → Leaves n out (call out))
-    (is : (out : List ℕ) → call out ≡ resultFor same k out) where
+    (is : (out : List ℕ) → call out ≡ result_for same k out) where
   pub form-short : (form : List (Row Label)) → canonical same k ≡ written form → length (encoded form) ≤ 4854
-  unfolding writtenOut fitted
+  unfolding written_out fitted
   form-short form e =
       let bytes : List ℕ = encoded form in
       length-bounded n bytes bytes (call bytes) (leaves bytes) (length bytes)
       (ap (λ (r : Result). r.reply)
-      (is bytes ∙ ap (λ (c : Canonical Label). result_of (writtenOut c bytes)) e ∙
+      (is bytes ∙ ap (λ (c : Canonical Label). result_of (written_out c bytes)) e ∙
       ap (λ (b : Bool). result_of (cond b (yielding (outcome.Length (length bytes)) (bytes ++ drop (length bytes) bytes)) (yielding outcome.NoRoom bytes)))
       (le-leb (length bytes) (length bytes) (omega arith))))
 
-  call-record : (out : List ℕ) → 4854 ≤ length out → taken (call out) ≡ recordOf (canonical same k)
-  unfolding writtenOut
+  call-record : (out : List ℕ) → 4854 ≤ length out → taken (call out) ≡ record_of (canonical same k)
+  unfolding written_out
   call-record out h = ap taken (is out) ∙ go (canonical same k) refl
     where
-      go : (c : Canonical Label) → canonical same k ≡ c → taken (result_of (writtenOut c out)) ≡ recordOf c
-      go manyNodes e = refl
-      go manyLinks e = refl
+      go : (c : Canonical Label) → canonical same k ≡ c → taken (result_of (written_out c out)) ≡ record_of c
+      go many_nodes e = refl
+      go many_links e = refl
       go (written form) e = taken-fitted (encoded form) out (omega (arith, form-short form e))
 
   pub call-room : (out : List ℕ) → 4854 ≤ length out → taken (call out) ≡ taken (call blank)
@@ -91,14 +91,14 @@ module _ (n : ℕ) {C : Type 0} (same : C → C → Bool) (k : Graph Label C) (c
 
   -- In room for the longest record, a call that answers no length answers 11.
   pub call-large : (out : List ℕ) → 4854 ≤ length out → length_of (call out).reply ≡ none → (call out).reply ≡ TooLarge
-  unfolding writtenOut fitted
+  unfolding written_out fitted
   call-large out h e =
       ap (λ (r : Result). r.reply) (is out) ∙
       go (canonical same k) refl (ap (λ (r : Result). length_of r.reply) (sym (is out)) ∙ e)
     where
-      go : (c : Canonical Label) → canonical same k ≡ c → length_of (result_of (writtenOut c out)).reply ≡ none → (result_of (writtenOut c out)).reply ≡ TooLarge
-      go manyNodes q d = refl
-      go manyLinks q d = refl
+      go : (c : Canonical Label) → canonical same k ≡ c → length_of (result_of (written_out c out)).reply ≡ none → (result_of (written_out c out)).reply ≡ TooLarge
+      go many_nodes q d = refl
+      go many_links q d = refl
       go (written form) q d =
           let fits : leb (length (encoded form)) (length out) ≡ true = le-leb (length (encoded form)) (length out) (omega (arith, form-short form q)) in
           none-some (sym d ∙
@@ -125,7 +125,7 @@ module _ (n : ℕ) (t : List ℕ) (opens : opened n t ≡ Accepted) where
   generalizing-refused bytes part fault e out = rw (opens, e)
 
   generalizing-is : (bytes part : List ℕ) (g h : List (Row Label)) → Given n t bytes part g h → (out : List ℕ) →
-      generalizing n t bytes part out ≡ resultFor same_pair (common n t g h) out
+      generalizing n t bytes part out ≡ result_for same_pair (common n t g h) out
   unfolding generalizing generalized
   generalizing-is bytes part g h given out = rw (given.opens, given.first, given.second)
 
@@ -141,7 +141,7 @@ module _ (n : ℕ) (t : List ℕ) (opens : opened n t ≡ Accepted) where
         go (some part) w (refused fault) e =
             ap taken (generalizing-refused bytes part fault e out) ∙ sym (ap taken (generalizing-refused bytes part fault e blank))
         go none w (accepted rows) e =
-            call-room n eqb (graphOfRows rows) (rewriting n t bytes) (λ out. rewriting-leaves n t out bytes) (rewriting-is n t bytes rows opens e) out h
+            call-room n eqb (graph_of_rows rows) (rewriting n t bytes) (λ out. rewriting-leaves n t out bytes) (rewriting-is n t bytes rows opens e) out h
         go (some part) w (accepted rows) e =
             call-room n same_pair (common n t rows (w part refl).form) (generalizing n t bytes part) (λ out. generalizing-leaves n t out bytes part)
             (generalizing-is bytes part rows (w part refl).form (record { opens = opens; first = e; second = (w part refl).reads })) out h
@@ -155,7 +155,7 @@ module _ (n : ℕ) (t : List ℕ) (opens : opened n t ≡ Accepted) where
         go (some part) w (refused fault) e d = inl (fault, e, ap (λ (r : Result). r.reply) (generalizing-refused bytes part fault e out))
         go none w (accepted rows) e d =
             absurd (rewriting-never-large n t out bytes
-            (call-large n eqb (graphOfRows rows) (rewriting n t bytes) (λ out. rewriting-leaves n t out bytes) (rewriting-is n t bytes rows opens e) out h d))
+            (call-large n eqb (graph_of_rows rows) (rewriting n t bytes) (λ out. rewriting-leaves n t out bytes) (rewriting-is n t bytes rows opens e) out h d))
         go (some part) w (accepted rows) e d =
             inr (
               part,

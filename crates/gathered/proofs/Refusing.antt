@@ -6,15 +6,15 @@ use mathlib.Core.Option.{Option, none, some}
 use Prim.Native.Nat.{ℕ, ◌+◌, ◌*◌}
 use lib.Dec.{eqb, leb}
 use lib.ListN.{length, drop}
-use Rattle.graphs.specs.Number.{Canonical, canonical, manyNodes, manyLinks, written}
+use Rattle.graphs.specs.Number.{Canonical, canonical, many_nodes, many_links, written}
 use Rattle.lattice.specs.Label.{Label}
 use Rattle.acceptance.specs.declared.Opened.{Opened}
 use Rattle.acceptance.specs.declared.Opened.TheVariants as table
 use Rattle.acceptance.specs.Reply.{opened}
 use Rattle.encoder.specs.Encode.{encoded}
 use Rattle.encode.specs.declared.Written.TheVariants as outcome
-use Rattle.encode.specs.Encode.{yielding, fitted, writtenOut}
-use Rattle.record.specs.Read.{Reading, refused, accepted, reading, graphOfRows}
+use Rattle.encode.specs.Encode.{yielding, fitted, written_out}
+use Rattle.record.specs.Read.{Reading, refused, accepted, reading, graph_of_rows}
 use Rattle.replies.specs.declared.Reply.TheVariants.{Length, NoRoom}
 use Rattle.replies.specs.Reply.{result_of, resulting, refusal}
 use Rattle.calls.specs.Calls.{checked}
@@ -22,10 +22,10 @@ use Rattle.gathering.specs.Gathering.{
   state_of,
   begun,
   types_in,
-  tableIn,
-  gatheredIn,
-  writtenFrom,
-  finishedWith,
+  table_in,
+  gathered_in,
+  written_from,
+  finished_with,
   finishing,
 }
 use Rattle.gathering.proofs.Told.{none-some}
@@ -55,8 +55,8 @@ begin-refused n t buffer k e = go (opened n t) e
     go table.Accepted d = inside (leb (1 + 8 * n + 2 + 4854) (length buffer)) d
 
 pub finish-refused : (state out : List ℕ) (k : ℕ) → refusal (finishing state out).reply ≡ some k → (finishing state out).output ≡ out
-unfolding finishing writtenOut fitted
-finish-refused state out k e = go (opened (types_in state) (tableIn state)) (gatheredIn state) e
+unfolding finishing written_out fitted
+finish-refused state out k e = go (opened (types_in state) (table_in state)) (gathered_in state) e
   where
     fits : (bytes : List ℕ) (b : Bool) →
         refusal
@@ -65,18 +65,18 @@ finish-refused state out k e = go (opened (types_in state) (tableIn state)) (gat
     fits bytes true d = none-some d
     fits bytes false d = refl
 
-    writes : (c : Canonical Label) → refusal (result_of (writtenOut c out)).reply ≡ some k → (result_of (writtenOut c out)).output ≡ out
-    writes manyNodes d = refl
-    writes manyLinks d = refl
+    writes : (c : Canonical Label) → refusal (result_of (written_out c out)).reply ≡ some k → (result_of (written_out c out)).output ≡ out
+    writes many_nodes d = refl
+    writes many_links d = refl
     writes (written rows) d = fits (encoded rows) (leb (length (encoded rows)) (length out)) d
 
-    reads : (r : Reading) → refusal (writtenFrom r out).reply ≡ some k → (writtenFrom r out).output ≡ out
+    reads : (r : Reading) → refusal (written_from r out).reply ≡ some k → (written_from r out).output ≡ out
     reads (refused fault) d = refl
-    reads (accepted rows) d = writes (canonical eqb (graphOfRows rows)) d
+    reads (accepted rows) d = writes (canonical eqb (graph_of_rows rows)) d
 
     go : (o : Opened) (p : Option (List ℕ)) →
-        refusal (checked (λ r. resulting r out) o (finishedWith (types_in state) p out)).reply ≡ some k →
-        (checked (λ r. resulting r out) o (finishedWith (types_in state) p out)).output ≡ out
+        refusal (checked (λ r. resulting r out) o (finished_with (types_in state) p out)).reply ≡ some k →
+        (checked (λ r. resulting r out) o (finished_with (types_in state) p out)).output ≡ out
     go (table.Refused fault) p d = refl
     go table.Accepted none d = refl
     go table.Accepted (some part) d = reads (reading (types_in state) part) d

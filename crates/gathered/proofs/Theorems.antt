@@ -20,25 +20,25 @@ use Rattle.acceptance.specs.declared.Opened.TheVariants as table
 use Rattle.acceptance.specs.Reply.{opened}
 use Rattle.encode.specs.declared.Written.{Written}
 use Rattle.encode.specs.declared.Written.TheVariants as outcome
-use Rattle.encode.specs.Encode.{yielding, fitted, writtenOut}
+use Rattle.encode.specs.Encode.{yielding, fitted, written_out}
 use Rattle.decode.specs.Decode.{decoded}
 use Rattle.record.specs.declared.GraphFault.{GraphFault}
 use Rattle.record.specs.declared.GraphFault.TheVariants.{Malformed, OutOfRange, Cyclic, Unreached}
-use Rattle.record.specs.Read.{Reading, refused, accepted, reading, judged, in_range, cyclic, reachesAll, graphOfRows, graphNumber}
+use Rattle.record.specs.Read.{Reading, refused, accepted, reading, judged, in_range, cyclic, reaches_all, graph_of_rows, graph_number}
 use Rattle.replies.specs.declared.Reply.{Reply}
 use Rattle.replies.specs.declared.Reply.TheVariants.{Length, NoRoom, NothingGathered}
-use Rattle.replies.specs.Reply.{Result, resulting, refusing, replyOf, result_of, refusal, length_of}
-use Rattle.pairs.specs.Pair.{readBoth}
-use Rattle.subsume.specs.Promise.{rowsBelow}
+use Rattle.replies.specs.Reply.{Result, resulting, refusing, reply_of, result_of, refusal, length_of}
+use Rattle.pairs.specs.Pair.{read_both}
+use Rattle.subsume.specs.Promise.{rows_below}
 use Rattle.orders.specs.Ordering.{compared, ordered}
 use Rattle.engine.proofs.Tables.{few-types}
 use Rattle.calls.specs.Calls.{checked, ordering, rewriting}
 use Rattle.demands.specs.Demand.{WrittenRecord, Rewritten}
 use Rattle.demands.proofs.Results.{rewriting-is}
 use Rattle.demands.proofs.Demands.{rewriting-means, written-own-bytes}
-use Rattle.gathering.specs.Gathering.{state_of, begun, nothingAfter, joining, adding, comparedWith, comparing, writtenFrom, finishedWith, finishing}
+use Rattle.gathering.specs.Gathering.{state_of, begun, nothing_after, joining, adding, compared_with, comparing, written_from, finished_with, finishing}
 use Rattle.gathering.proofs.Told.{none-some, length-told}
-use Rattle.gathered.specs.Calls.{Call, add, order, finish, stateAfter, keptWhere, additions, alone, blank, takenBy, taken, instead, folded}
+use Rattle.gathered.specs.Calls.{Call, add, order, finish, state_after, kept_where, additions, alone, blank, taken_by, taken, instead, folded}
 use Rattle.gathered.specs.Theorem.{bytes_of, Holds, LeastAbove}
 use Rattle.gathered.proofs.Mixture as Mixture
 use Rattle.gathered.proofs.Mixture.{adding-kept}
@@ -49,7 +49,7 @@ use Rattle.gathered.proofs.Least as Least
 use Rattle.gathered.proofs.Holding.{comparing-is, finishing-is, adding-holds, adding-answer}
 
 -- 1. "The state after any such mixture is what the accepted additions alone, folded in their order, give": on any state, the bytes are equal.
-pub mixture : (cs : List Call) (state : List ℕ) → stateAfter state cs ≡ stateAfter state (alone (additions state cs))
+pub mixture : (cs : List Call) (state : List ℕ) → state_after state cs ≡ state_after state (alone (additions state cs))
 mixture = Mixture.mixture
 
 -- Made alone, all accepted additions are accepted again.
@@ -123,16 +123,16 @@ module _ (n : ℕ) (t : List ℕ) where
 
   -- 3. After any calls the state holds the fold of the accepted additions.
   pub calls-hold : (cs : List Call) (state : List ℕ) (o : Option (List ℕ)) → Holds n t state o →
-      Holds n t (stateAfter state cs) (folded n t o (additions state cs))
-  unfolding stateAfter additions folded
+      Holds n t (state_after state cs) (folded n t o (additions state cs))
+  unfolding state_after additions folded
   calls-hold [] state o holds = holds
   calls-hold (add bytes ∷ cs) state o holds =
       go (length_of (adding state bytes).reply) refl (calls-hold cs (adding state bytes).output)
     where
       go : (l : Option ℕ) → length_of (adding state bytes).reply ≡ l →
           ((p : Option (List ℕ)) → Holds n t (adding state bytes).output p →
-          Holds n t (stateAfter (adding state bytes).output cs) (folded n t p (additions (adding state bytes).output cs))) →
-          Holds n t (stateAfter (adding state bytes).output cs) (folded n t o (keptWhere l bytes (additions (adding state bytes).output cs)))
+          Holds n t (state_after (adding state bytes).output cs) (folded n t p (additions (adding state bytes).output cs))) →
+          Holds n t (state_after (adding state bytes).output cs) (folded n t o (kept_where l bytes (additions (adding state bytes).output cs)))
       go none e more = more o (subst (λ (s : List ℕ). Holds n t s o) (sym (adding-kept state bytes e)) holds)
       go (some l) e more = more (instead o (taken (joining n t o bytes blank))) (adding-holds n t state o holds bytes)
   calls-hold (order bytes ∷ cs) state o holds = calls-hold cs state o holds
@@ -141,34 +141,34 @@ module _ (n : ℕ) (t : List ℕ) where
 -- 4. "an addition is refused by 4 to 7 or 11 alone"
 
 -- The number of a refused record is 4 to 7.
-pub reading-number : (n : ℕ) (bytes : List ℕ) (fault : GraphFault) → reading n bytes ≡ refused fault → (4 ≤ graphNumber fault) × (graphNumber fault ≤ 7)
+pub reading-number : (n : ℕ) (bytes : List ℕ) (fault : GraphFault) → reading n bytes ≡ refused fault → (4 ≤ graph_number fault) × (graph_number fault ≤ 7)
 unfolding reading
 reading-number n bytes fault e = go (decoded bytes) e
   where
-    last : (f : GraphFault) → refused f ≡ refused fault → (4 ≤ graphNumber f) × (graphNumber f ≤ 7) → (4 ≤ graphNumber fault) × (graphNumber fault ≤ 7)
-    last f d x = let same : f ≡ fault = cc in subst (λ (g : GraphFault). (4 ≤ graphNumber g) × (graphNumber g ≤ 7)) same x
+    last : (f : GraphFault) → refused f ≡ refused fault → (4 ≤ graph_number f) × (graph_number f ≤ 7) → (4 ≤ graph_number fault) × (graph_number fault ≤ 7)
+    last f d x = let same : f ≡ fault = cc in subst (λ (g : GraphFault). (4 ≤ graph_number g) × (graph_number g ≤ 7)) same x
 
     never : {X : Type 0} {rows : List (Row Label)} → accepted rows ≡ refused fault → X
     never d = let z : ◌≡◌ {A = ℕ} 0 1 = cc in absurd (omega arith)
 
     reaches : (rows : List (Row Label)) (b : Bool) → cond b (accepted rows) (refused Unreached) ≡ refused fault →
-        (4 ≤ graphNumber fault) × (graphNumber fault ≤ 7)
+        (4 ≤ graph_number fault) × (graph_number fault ≤ 7)
     reaches rows true d = never d
     reaches rows false d = last Unreached d (omega arith, omega arith)
 
     loops : (rows : List (Row Label)) (b : Bool) →
-        cond b (refused Cyclic) (cond (reachesAll rows) (accepted rows) (refused Unreached)) ≡ refused fault →
-        (4 ≤ graphNumber fault) × (graphNumber fault ≤ 7)
+        cond b (refused Cyclic) (cond (reaches_all rows) (accepted rows) (refused Unreached)) ≡ refused fault →
+        (4 ≤ graph_number fault) × (graph_number fault ≤ 7)
     loops rows true d = last Cyclic d (omega arith, omega arith)
-    loops rows false d = reaches rows (reachesAll rows) d
+    loops rows false d = reaches rows (reaches_all rows) d
 
     ranges : (rows : List (Row Label)) (b : Bool) →
-        cond b (cond (cyclic rows) (refused Cyclic) (cond (reachesAll rows) (accepted rows) (refused Unreached))) (refused OutOfRange) ≡ refused fault →
-        (4 ≤ graphNumber fault) × (graphNumber fault ≤ 7)
+        cond b (cond (cyclic rows) (refused Cyclic) (cond (reaches_all rows) (accepted rows) (refused Unreached))) (refused OutOfRange) ≡ refused fault →
+        (4 ≤ graph_number fault) × (graph_number fault ≤ 7)
     ranges rows true d = loops rows (cyclic rows) d
     ranges rows false d = last OutOfRange d (omega arith, omega arith)
 
-    go : (o : Option (List (Row Label))) → judged n o ≡ refused fault → (4 ≤ graphNumber fault) × (graphNumber fault ≤ 7)
+    go : (o : Option (List (Row Label))) → judged n o ≡ refused fault → (4 ≤ graph_number fault) × (graph_number fault ≤ 7)
     go none d = last Malformed d (omega arith, omega arith)
     go (some rows) d = ranges rows (in_range n rows) d
 
@@ -184,13 +184,13 @@ ordering-gathered n t a b e = go (opened n t) (reading n a) (reading n b) e
     four false true d = let z : ◌≡◌ {A = ℕ} 0 1 = cc in omega arith
     four false false d = let z : ◌≡◌ {A = ℕ} 0 1 = cc in omega arith
 
-    go : (x : Opened) (p q : Reading) → checked (λ r. r) x (readBoth (λ r. r) p q (ordered n t)) ≡ NothingGathered → ⊥
+    go : (x : Opened) (p q : Reading) → checked (λ r. r) x (read_both (λ r. r) p q (ordered n t)) ≡ NothingGathered → ⊥
     go (table.Refused fault) p q d = let z : ◌≡◌ {A = ℕ} 0 1 = cc in omega arith
     go table.Accepted (refused fault) q d = let z : ◌≡◌ {A = ℕ} 0 1 = cc in omega arith
     go table.Accepted (accepted rows) (refused fault) d = let z : ◌≡◌ {A = ℕ} 0 1 = cc in omega arith
-    go table.Accepted (accepted s) (accepted g) d = four (rowsBelow n t s g) (rowsBelow n t g s) d
+    go table.Accepted (accepted s) (accepted g) d = four (rows_below n t s g) (rows_below n t g s) d
 
-written-gathered : (w : Written) → replyOf w ≡ NothingGathered → ⊥
+written-gathered : (w : Written) → reply_of w ≡ NothingGathered → ⊥
 written-gathered (outcome.Length l) e = let z : ◌≡◌ {A = ℕ} 0 1 = cc in omega arith
 written-gathered outcome.TooLarge e = let z : ◌≡◌ {A = ℕ} 0 1 = cc in omega arith
 written-gathered outcome.NoRoom e = let z : ◌≡◌ {A = ℕ} 0 1 = cc in omega arith
@@ -212,7 +212,7 @@ module _ (n : ℕ) (t state : List ℕ) (o : Option (List ℕ)) (holds : Holds n
     where
       number : (r : Reply) → refusal r ≡ some k → Why n bytes o r → ((4 ≤ k) × (k ≤ 7)) ⊎ (k ≡ 11)
       number r d (inl (fault, reads, is)) =
-          let same : graphNumber fault ≡ k = some-injective (sym (ap refusal is) ∙ d) in
+          let same : graph_number fault ≡ k = some-injective (sym (ap refusal is) ∙ d) in
           inl (subst (λ (j : ℕ). (4 ≤ j) × (j ≤ 7)) same (reading-number n bytes fault reads))
       number r d (inr (part, there, is)) = inr (sym (some-injective (sym (ap refusal is) ∙ d)))
 
@@ -224,52 +224,52 @@ module _ (n : ℕ) (t state : List ℕ) (o : Option (List ℕ)) (holds : Holds n
       let told : length_of (joining n t o bytes whole).reply ≡ some l = sym (ap length_of (adding-answer n t state o holds bytes)) ∙ e in (
         take l (joining n t o bytes whole).output,
         sym (joining-room n t holds.opens o holds.written bytes whole holds.room) ∙
-            ap (λ (m : Option ℕ). takenBy m (joining n t o bytes whole)) told,
+            ap (λ (m : Option ℕ). taken_by m (joining n t o bytes whole)) told,
       )
 
   -- 5. The order of a program is told "as first graph, to the common part of those added so far".
   pub order_is : (bytes part : List ℕ) → o ≡ some part → comparing state bytes ≡ ordering n t bytes part
-  order_is bytes part e = comparing-is n t state o holds bytes ∙ ap (λ (p : Option (List ℕ)). comparedWith n t p bytes) e
+  order_is bytes part e = comparing-is n t state o holds bytes ∙ ap (λ (p : Option (List ℕ)). compared_with n t p bytes) e
 
   -- An order answers 16 exactly where nothing is gathered and the program is accepted.
   pub order-nothing : (bytes : List ℕ) → (comparing state bytes ≡ NothingGathered) ↔
       ((o ≡ none) × ((rows : List (Row Label)) × (reading n bytes ≡ accepted rows)))
   order-nothing bytes = (λ e. there o (sym (comparing-is n t state o holds bytes) ∙ e), λ e. comparing-is n t state o holds bytes ∙ back e)
     where
-      reads : (r : Reading) → nothingAfter r ≡ NothingGathered → (rows : List (Row Label)) × (r ≡ accepted rows)
+      reads : (r : Reading) → nothing_after r ≡ NothingGathered → (rows : List (Row Label)) × (r ≡ accepted rows)
       reads (refused fault) e = let z : ◌≡◌ {A = ℕ} 0 1 = cc in absurd (omega arith)
       reads (accepted rows) e = (rows, refl)
 
-      there : (p : Option (List ℕ)) → comparedWith n t p bytes ≡ NothingGathered → (p ≡ none) × ((rows : List (Row Label)) × (reading n bytes ≡ accepted rows))
+      there : (p : Option (List ℕ)) → compared_with n t p bytes ≡ NothingGathered → (p ≡ none) × ((rows : List (Row Label)) × (reading n bytes ≡ accepted rows))
       there none e =
-          (refl, reads (reading n bytes) (sym (ap (λ (x : Opened). checked (λ r. r) x (nothingAfter (reading n bytes))) holds.opens) ∙ e))
+          (refl, reads (reading n bytes) (sym (ap (λ (x : Opened). checked (λ r. r) x (nothing_after (reading n bytes))) holds.opens) ∙ e))
       there (some part) e = absurd (ordering-gathered n t bytes part e)
 
-      back : (o ≡ none) × ((rows : List (Row Label)) × (reading n bytes ≡ accepted rows)) → comparedWith n t o bytes ≡ NothingGathered
+      back : (o ≡ none) × ((rows : List (Row Label)) × (reading n bytes ≡ accepted rows)) → compared_with n t o bytes ≡ NothingGathered
       back (e, (rows, d)) =
-          ap (λ (p : Option (List ℕ)). comparedWith n t p bytes) e ∙
-          ap₂ (λ (x : Opened) (r : Reading). checked (λ r. r) x (nothingAfter r)) holds.opens d
+          ap (λ (p : Option (List ℕ)). compared_with n t p bytes) e ∙
+          ap₂ (λ (x : Opened) (r : Reading). checked (λ r. r) x (nothing_after r)) holds.opens d
 
   -- 6. "Finishing writes the common part", or answers 8.
   pub finish-is : (out part : List ℕ) → o ≡ some part → finishing state out ≡ result_of (fitted part out)
   finish-is out part e =
       let one : WrittenRecord n part = holds.written part e in
-      finishing-is n t state o holds out ∙ ap (λ (p : Option (List ℕ)). finishedWith n p out) e ∙
-      ap (λ (r : Reading). writtenFrom r out) one.reads ∙
+      finishing-is n t state o holds out ∙ ap (λ (p : Option (List ℕ)). finished_with n p out) e ∙
+      ap (λ (r : Reading). written_from r out) one.reads ∙
       sym (rewriting-is n t part one.form holds.opens one.reads out) ∙ written-own-bytes n t part one holds.opens out
 
   -- A finish answers 16 exactly where nothing is gathered.
   pub finish-nothing : (out : List ℕ) → ((finishing state out).reply ≡ NothingGathered) ↔ (o ≡ none)
   finish-nothing out = (
     λ e. there o holds.written (sym (ap (λ (y : Result). y.reply) (finishing-is n t state o holds out)) ∙ e),
-    λ e. ap (λ (y : Result). y.reply) (finishing-is n t state o holds out ∙ ap (λ (p : Option (List ℕ)). finishedWith n p out) e),
+    λ e. ap (λ (y : Result). y.reply) (finishing-is n t state o holds out ∙ ap (λ (p : Option (List ℕ)). finished_with n p out) e),
   )
     where
-      from : (r : Reading) → (writtenFrom r out).reply ≡ NothingGathered → {X : Type 0} → X
+      from : (r : Reading) → (written_from r out).reply ≡ NothingGathered → {X : Type 0} → X
       from (refused fault) e = let z : ◌≡◌ {A = ℕ} 0 1 = cc in absurd (omega arith)
-      from (accepted rows) e = absurd (written-gathered (writtenOut (canonical eqb (graphOfRows rows)) out).answer e)
+      from (accepted rows) e = absurd (written-gathered (written_out (canonical eqb (graph_of_rows rows)) out).answer e)
 
-      there : (p : Option (List ℕ)) → ((part : List ℕ) → p ≡ some part → WrittenRecord n part) → (finishedWith n p out).reply ≡ NothingGathered → p ≡ none
+      there : (p : Option (List ℕ)) → ((part : List ℕ) → p ≡ some part → WrittenRecord n part) → (finished_with n p out).reply ≡ NothingGathered → p ≡ none
       there none w e = refl
       there (some part) w e = from (reading n part) e
 
@@ -278,10 +278,10 @@ module _ (n : ℕ) (t state : List ℕ) (o : Option (List ℕ)) (holds : Holds n
   unfolding ordering ordered
   order-numbers bytes k e = go o holds.written (sym (ap refusal (comparing-is n t state o holds bytes)) ∙ e)
     where
-      number : (fault : GraphFault) → reading n bytes ≡ refused fault → some (graphNumber fault) ≡ some k → ((4 ≤ k) × (k ≤ 7)) ⊎ (k ≡ 16)
+      number : (fault : GraphFault) → reading n bytes ≡ refused fault → some (graph_number fault) ≡ some k → ((4 ≤ k) × (k ≤ 7)) ⊎ (k ≡ 16)
       number fault reads d = inl (subst (λ (j : ℕ). (4 ≤ j) × (j ≤ 7)) (some-injective d) (reading-number n bytes fault reads))
 
-      nothing : (r : Reading) → reading n bytes ≡ r → refusal (nothingAfter r) ≡ some k → ((4 ≤ k) × (k ≤ 7)) ⊎ (k ≡ 16)
+      nothing : (r : Reading) → reading n bytes ≡ r → refusal (nothing_after r) ≡ some k → ((4 ≤ k) × (k ≤ 7)) ⊎ (k ≡ 16)
       nothing (refused fault) reads d = number fault reads d
       nothing (accepted rows) reads d = inr (sym (some-injective d))
 
@@ -292,18 +292,18 @@ module _ (n : ℕ) (t state : List ℕ) (o : Option (List ℕ)) (holds : Holds n
       four false false d = none-some d
 
       both : (form : List (Row Label)) (r : Reading) → reading n bytes ≡ r →
-          refusal (readBoth (λ q. q) r (accepted form) (ordered n t)) ≡ some k → ((4 ≤ k) × (k ≤ 7)) ⊎ (k ≡ 16)
+          refusal (read_both (λ q. q) r (accepted form) (ordered n t)) ≡ some k → ((4 ≤ k) × (k ≤ 7)) ⊎ (k ≡ 16)
       both form (refused fault) reads d = number fault reads d
-      both form (accepted rows) reads d = four (rowsBelow n t rows form) (rowsBelow n t form rows) d
+      both form (accepted rows) reads d = four (rows_below n t rows form) (rows_below n t form rows) d
 
-      go : (p : Option (List ℕ)) → ((part : List ℕ) → p ≡ some part → WrittenRecord n part) → refusal (comparedWith n t p bytes) ≡ some k →
+      go : (p : Option (List ℕ)) → ((part : List ℕ) → p ≡ some part → WrittenRecord n part) → refusal (compared_with n t p bytes) ≡ some k →
           ((4 ≤ k) × (k ≤ 7)) ⊎ (k ≡ 16)
       go none w d =
           nothing (reading n bytes) refl
-          (sym (ap (λ (x : Opened). refusal (checked (λ r. r) x (nothingAfter (reading n bytes)))) holds.opens) ∙ d)
+          (sym (ap (λ (x : Opened). refusal (checked (λ r. r) x (nothing_after (reading n bytes)))) holds.opens) ∙ d)
       go (some part) w d =
           both (w part refl).form (reading n bytes) refl
-          (sym (ap₂ (λ (x : Opened) (r : Reading). refusal (checked (λ r. r) x (readBoth (λ q. q) (reading n bytes) r (ordered n t)))) holds.opens (w part refl).reads) ∙ d)
+          (sym (ap₂ (λ (x : Opened) (r : Reading). refusal (checked (λ r. r) x (read_both (λ q. q) (reading n bytes) r (ordered n t)))) holds.opens (w part refl).reads) ∙ d)
 
   pub finish-numbers : (out : List ℕ) (k : ℕ) → refusal (finishing state out).reply ≡ some k → (k ≡ 16) ⊎ (k ≡ 8)
   unfolding fitted
@@ -344,8 +344,8 @@ module _ (n : ℕ) (t : List ℕ) where
       go : (l : Option ℕ) → length_of (adding state bytes).reply ≡ l →
           (Holds n t (adding state bytes).output o →
           (additions (adding state bytes).output cs ≡ []) ⊎ ((q : List ℕ) × (folded n t o (additions (adding state bytes).output cs) ≡ some q))) →
-          (keptWhere l bytes (additions (adding state bytes).output cs) ≡ []) ⊎
-          ((q : List ℕ) × (folded n t o (keptWhere l bytes (additions (adding state bytes).output cs)) ≡ some q))
+          (kept_where l bytes (additions (adding state bytes).output cs) ≡ []) ⊎
+          ((q : List ℕ) × (folded n t o (kept_where l bytes (additions (adding state bytes).output cs)) ≡ some q))
       go none e more = more (subst (λ (s : List ℕ). Holds n t s o) (sym (adding-kept state bytes e)) holds)
       go (some l) e more =
           let (part, is) = addition-taken n t state o holds bytes l e in
@@ -356,20 +356,20 @@ module _ (n : ℕ) (t : List ℕ) where
 
   -- "Order or finish before the first addition is 16"
   pub finish-before : (cs : List Call) (state : List ℕ) → Holds n t state none → (out : List ℕ) →
-      ((finishing (stateAfter state cs) out).reply ≡ NothingGathered) ↔ (additions state cs ≡ [])
+      ((finishing (state_after state cs) out).reply ≡ NothingGathered) ↔ (additions state cs ≡ [])
   unfolding folded
   finish-before cs state holds out =
-      let exact = finish-nothing n t (stateAfter state cs) (folded n t none (additions state cs)) (calls-hold n t cs state none holds) out in (
+      let exact = finish-nothing n t (state_after state cs) (folded n t none (additions state cs)) (calls-hold n t cs state none holds) out in (
         λ e. ⊎_elim (λ d. d) (λ found. none-some (sym (exact.0 e) ∙ found.1)) (gathered-or-none cs state none holds),
         λ d. exact.1 (ap (folded n t none) d),
       )
 
   pub order-before : (cs : List Call) (state : List ℕ) → Holds n t state none → (bytes : List ℕ) →
-      (comparing (stateAfter state cs) bytes ≡ NothingGathered) ↔
+      (comparing (state_after state cs) bytes ≡ NothingGathered) ↔
       ((additions state cs ≡ []) × ((rows : List (Row Label)) × (reading n bytes ≡ accepted rows)))
   unfolding folded
   order-before cs state holds bytes =
-      let exact = order-nothing n t (stateAfter state cs) (folded n t none (additions state cs)) (calls-hold n t cs state none holds) bytes in (
+      let exact = order-nothing n t (state_after state cs) (folded n t none (additions state cs)) (calls-hold n t cs state none holds) bytes in (
         λ e. (⊎_elim (λ d. d) (λ found. none-some (sym (exact.0 e).0 ∙ found.1)) (gathered-or-none cs state none holds), (exact.0 e).1),
         λ d. exact.1 (ap (folded n t none) d.0, d.1),
       )
@@ -378,33 +378,33 @@ module _ (n : ℕ) (t : List ℕ) where
   -- additions. Finishing writes this record, or answers 8, and a program's order is told to this record.
   pub finish-least : (cs : List Call) (state : List ℕ) → Holds n t state none → (additions state cs ≡ [] → ⊥) →
       (part : List ℕ) × LeastAbove n t (additions state cs) part ×
-      ((out : List ℕ) → finishing (stateAfter state cs) out ≡ result_of (fitted part out)) ×
-      ((bytes : List ℕ) → comparing (stateAfter state cs) bytes ≡ ordering n t bytes part)
+      ((out : List ℕ) → finishing (state_after state cs) out ≡ result_of (fitted part out)) ×
+      ((bytes : List ℕ) → comparing (state_after state cs) bytes ≡ ordering n t bytes part)
   finish-least cs state holds some-added = go (least-after n t holds.opens cs state holds)
     where
-      after : Holds n t (stateAfter state cs) (folded n t none (additions state cs))
+      after : Holds n t (state_after state cs) (folded n t none (additions state cs))
       after = calls-hold n t cs state none holds
 
       go : (additions state cs ≡ []) ⊎ ((q : List ℕ) × (folded n t none (additions state cs) ≡ some q) × LeastAbove n t (additions state cs) q) →
           (part : List ℕ) × LeastAbove n t (additions state cs) part ×
-          ((out : List ℕ) → finishing (stateAfter state cs) out ≡ result_of (fitted part out)) ×
-          ((bytes : List ℕ) → comparing (stateAfter state cs) bytes ≡ ordering n t bytes part)
+          ((out : List ℕ) → finishing (state_after state cs) out ≡ result_of (fitted part out)) ×
+          ((bytes : List ℕ) → comparing (state_after state cs) bytes ≡ ordering n t bytes part)
       go (inl none-added) = absurd (some-added none-added)
       go (inr (q, found, best)) = (
         q,
         best,
-        (λ out. finish-is n t (stateAfter state cs) (folded n t none (additions state cs)) after out q found),
-        (λ bytes. order_is n t (stateAfter state cs) (folded n t none (additions state cs)) after bytes q found),
+        (λ out. finish-is n t (state_after state cs) (folded n t none (additions state cs)) after out q found),
+        (λ bytes. order_is n t (state_after state cs) (folded n t none (additions state cs)) after bytes q found),
       )
 
   -- After one accepted addition, finishing gives what rewriting that program gives.
   pub finish-one : (cs : List Call) (state : List ℕ) → Holds n t state none → (p : List ℕ) → additions state cs ≡ p ∷ [] →
-      (out : List ℕ) → finishing (stateAfter state cs) out ≡ rewriting n t p out
+      (out : List ℕ) → finishing (state_after state cs) out ≡ rewriting n t p out
   unfolding folded
   finish-one cs state holds p e out = go (least-after n t holds.opens cs state holds)
     where
       again : (rows : List (Row Label)) (q : List ℕ) → reading n p ≡ accepted rows → (o : Option ℕ) → length_of (rewriting n t p blank).reply ≡ o →
-          takenBy o (rewriting n t p blank) ≡ some q → Rewritten n t p rows q
+          taken_by o (rewriting n t p blank) ≡ some q → Rewritten n t p rows q
       again rows q reads none d is = none-some is
       again rows q reads (some l) d is =
           subst (Rewritten n t p rows) (some-injective is)
@@ -415,14 +415,14 @@ module _ (n : ℕ) (t : List ℕ) where
       instead-taken (some q) = refl
 
       go : (additions state cs ≡ []) ⊎ ((q : List ℕ) × (folded n t none (additions state cs) ≡ some q) × LeastAbove n t (additions state cs) q) →
-          finishing (stateAfter state cs) out ≡ rewriting n t p out
+          finishing (state_after state cs) out ≡ rewriting n t p out
       go (inl none-added) = let z : ◌≡◌ {A = ℕ} 0 1 = cc (none-added, e) in absurd (omega arith)
       go (inr (q, found, best)) =
           let (rows, reads) = best.all-accepted p (subst (λ (ps : List (List ℕ)). Memᴰ p ps) (sym e) (Memᴰ.head refl)) in
           let is : taken (rewriting n t p blank) ≡ some q =
           sym (instead-taken (taken (rewriting n t p blank))) ∙ sym (ap (folded n t none) e) ∙ found in
           let one : Rewritten n t p rows q = again rows q reads (length_of (rewriting n t p blank).reply) refl is in
-          finish-is n t (stateAfter state cs) (folded n t none (additions state cs)) (calls-hold n t cs state none holds) out q found ∙
+          finish-is n t (state_after state cs) (folded n t none (additions state cs)) (calls-hold n t cs state none holds) out q found ∙
           sym (written-own-bytes n t q one.is-record.is-written holds.opens out) ∙ one.again out
 
   -- 9. The record that is gathered depends only on which programs were accepted, not on their order.

@@ -19,19 +19,19 @@ called state (order bytes) = resulting (comparing state bytes) state
 called state (finish out) = resulting (finishing state out).reply state
 
 -- The state after all calls.
-unfoldable pub stateAfter : List ℕ → List Call → List ℕ
-stateAfter state [] = state
-stateAfter state (c ∷ cs) = stateAfter (called state c).output cs
+unfoldable pub state_after : List ℕ → List Call → List ℕ
+state_after state [] = state
+state_after state (c ∷ cs) = state_after (called state c).output cs
 
 -- An addition that is answered by a length stands before the later ones; any other is left out.
-abbrev pub keptWhere : Option ℕ → List ℕ → List (List ℕ) → List (List ℕ)
-keptWhere none bytes others = others
-keptWhere (some l) bytes others = bytes ∷ others
+abbrev pub kept_where : Option ℕ → List ℕ → List (List ℕ) → List (List ℕ)
+kept_where none bytes others = others
+kept_where (some l) bytes others = bytes ∷ others
 
 -- The accepted additions, in their order: those that are answered by a length.
 unfoldable pub additions : List ℕ → List Call → List (List ℕ)
 additions state [] = []
-additions state (add bytes ∷ cs) = keptWhere (length_of (adding state bytes).reply) bytes (additions (adding state bytes).output cs)
+additions state (add bytes ∷ cs) = kept_where (length_of (adding state bytes).reply) bytes (additions (adding state bytes).output cs)
 additions state (order bytes ∷ cs) = additions state cs
 additions state (finish out ∷ cs) = additions state cs
 
@@ -40,13 +40,13 @@ abbrev pub alone : List (List ℕ) → List Call
 alone programs = map add programs
 
 -- The record that a call writes; none where it answers no length.
-abbrev pub takenBy : Option ℕ → Result → Option (List ℕ)
-takenBy none r = none
-takenBy (some l) r = some (take l r.output)
+abbrev pub taken_by : Option ℕ → Result → Option (List ℕ)
+taken_by none r = none
+taken_by (some l) r = some (take l r.output)
 
--- `takenBy`, by the length that the reply tells.
+-- `taken_by`, by the length that the reply tells.
 abbrev pub taken : Result → Option (List ℕ)
-taken r = takenBy (length_of r.reply) r
+taken r = taken_by (length_of r.reply) r
 
 -- The new common part, or the old one where there is no new one.
 abbrev pub instead : Option (List ℕ) → Option (List ℕ) → Option (List ℕ)

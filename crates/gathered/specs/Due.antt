@@ -5,12 +5,12 @@ use Rattle.std.proofs.Math.Option.{Option, none, some}
 use Rattle.graphs.specs.Graph.{Below}
 use Rattle.graphs.specs.Rows.{Row}
 use Rattle.lattice.specs.Label.{Label}
-use Rattle.lattice.specs.Labels.{tableLabels}
+use Rattle.lattice.specs.Labels.{table_labels}
 use Rattle.acceptance.specs.declared.TableFault.{TableFault}
 use Rattle.acceptance.specs.declared.Opened.TheVariants.{Accepted, Refused}
 use Rattle.acceptance.specs.Reply.{opened}
 use Rattle.record.specs.declared.GraphFault.{GraphFault}
-use Rattle.record.specs.Read.{reading, accepted, refused, graphOfRows}
+use Rattle.record.specs.Read.{reading, accepted, refused, graph_of_rows}
 use Rattle.replies.specs.declared.Side.TheVariants.{First, Second}
 use Rattle.replies.specs.declared.Reply.{Reply}
 use Rattle.replies.specs.declared.Reply.TheVariants.{Length, Same, Under, Above, Neither, Table, Graph, NoRoom, TooLarge, NothingGathered}
@@ -18,12 +18,12 @@ use Rattle.demands.specs.Demand.{Given, RecordOf, Large, common}
 
 -- The graph of the first rows lies below that of the others.
 abbrev pub RowsBelow : ℕ → List ℕ → List (Row Label) → List (Row Label) → Type 0
-RowsBelow n t s g = Below (tableLabels n t) (graphOfRows s) (graphOfRows g)
+RowsBelow n t s g = Below (table_labels n t) (graph_of_rows s) (graph_of_rows g)
 
 -- The record of what is gathered once a program is added: a written record that means the same as the program where nothing was gathered, else
 -- one that means the same as the common part of the program and what was gathered.
 pub data NewPart (n : ℕ) (t : List ℕ) (o : Option (List ℕ)) (bytes new : List ℕ) : Type 0 where
-  first : (rows : List (Row Label)) → o ≡ none → reading n bytes ≡ accepted rows → RecordOf n t (graphOfRows rows) new → NewPart n t o bytes new
+  first : (rows : List (Row Label)) → o ≡ none → reading n bytes ≡ accepted rows → RecordOf n t (graph_of_rows rows) new → NewPart n t o bytes new
   later : (part : List ℕ) (rows others : List (Row Label)) → o ≡ some part → reading n bytes ≡ accepted rows → reading n part ≡ accepted others →
       RecordOf n t (common n t rows others) new → NewPart n t o bytes new
 
@@ -97,10 +97,10 @@ module _ (n : ℕ) (t : List ℕ) where
           FinishDue room (Graph fault Second)
       -- 8: "the result exists and the output is shorter".
       no_room : (part : List ℕ) (rows : List (Row Label)) (new : List ℕ) → opened n t ≡ Accepted → o ≡ some part → reading n part ≡ accepted rows →
-          RecordOf n t (graphOfRows rows) new → room < length new → FinishDue room NoRoom
+          RecordOf n t (graph_of_rows rows) new → room < length new → FinishDue room NoRoom
       -- "Finishing writes the common part": the length of its record.
       fits : (part : List ℕ) (rows : List (Row Label)) (new : List ℕ) → opened n t ≡ Accepted → o ≡ some part → reading n part ≡ accepted rows →
-          RecordOf n t (graphOfRows rows) new → length new ≤ room → FinishDue room (Length (length new))
+          RecordOf n t (graph_of_rows rows) new → length new ≤ room → FinishDue room (Length (length new))
 
 -- The replies of a finish of a gathering that was begun.
 pub data FinishedDue (o : Option (List ℕ)) (room : ℕ) : Reply → Type 0 where

@@ -5,10 +5,10 @@ use Rattle.std.proofs.Math.Option.{Option, none, some}
 use Rattle.graphs.specs.Graph.{Graph, Below}
 use Rattle.graphs.specs.Rows.{Row}
 use Rattle.lattice.specs.Label.{Label}
-use Rattle.lattice.specs.Labels.{tableLabels, OfAnySize}
+use Rattle.lattice.specs.Labels.{table_labels, OfAnySize}
 use Rattle.acceptance.specs.declared.Opened.TheVariants.{Accepted}
 use Rattle.acceptance.specs.Reply.{opened}
-use Rattle.record.specs.Read.{reading, accepted, graphOfRows}
+use Rattle.record.specs.Read.{reading, accepted, graph_of_rows}
 use Rattle.demands.specs.Demand.{WrittenRecord}
 use Rattle.gathering.specs.Gathering.{state_of}
 
@@ -29,13 +29,13 @@ pub record Holds (n : ℕ) (t state : List ℕ) (o : Option (List ℕ)) : Type 0
 -- each of the programs lies below the graph
 abbrev pub AllBelow : ℕ → List ℕ → List (List ℕ) → {D : Type 0} → Graph Label D → Type 0
 AllBelow n t ps m =
-    (p : List ℕ) → Memᴰ p ps → (rows : List (Row Label)) → reading n p ≡ accepted rows → Below (tableLabels n t) (graphOfRows rows) m
+    (p : List ℕ) → Memᴰ p ps → (rows : List (Row Label)) → reading n p ≡ accepted rows → Below (table_labels n t) (graph_of_rows rows) m
 
 -- The programs are accepted, and the record is read as the least graph of any size above them all.
 pub record LeastAbove (n : ℕ) (t : List ℕ) (ps : List (List ℕ)) (bytes : List ℕ) : Type 1 where
   pub all-accepted : (p : List ℕ) → Memᴰ p ps → (rows : List (Row Label)) × (reading n p ≡ accepted rows)
   pub form : List (Row Label)
   pub reads : reading n bytes ≡ accepted form
-  pub of-any-size : OfAnySize n t (graphOfRows form)
-  pub above : AllBelow n t ps (graphOfRows form)
-  pub least : {D : Type 0} (m : Graph Label D) → OfAnySize n t m → AllBelow n t ps m → Below (tableLabels n t) (graphOfRows form) m
+  pub of-any-size : OfAnySize n t (graph_of_rows form)
+  pub above : AllBelow n t ps (graph_of_rows form)
+  pub least : {D : Type 0} (m : Graph Label D) → OfAnySize n t m → AllBelow n t ps m → Below (table_labels n t) (graph_of_rows form) m

@@ -17,7 +17,7 @@ use Rattle.acceptance.proofs.Acceptance.{opened-accepted}
 use Rattle.replies.specs.declared.Reply.TheVariants.{Length, Table, NoRoom}
 use Rattle.replies.specs.Reply.{Result, resulting, refusing}
 use Rattle.calls.specs.Calls.{checked}
-use Rattle.gathering.specs.Gathering.{twoBytes, state_of, begun}
+use Rattle.gathering.specs.Gathering.{two_bytes, state_of, begun}
 
 module _ (n : ℕ) (t : List ℕ) {answer : Opened} (told : answer ≡ opened n t) where
   -- an accepted table has 8 × n bytes
@@ -52,7 +52,7 @@ module _ (n : ℕ) (t : List ℕ) {answer : Opened} (told : answer ≡ opened n 
       table_fits = omega (arith, room, table-long accepts, length-set state 0 n)
 
       stored : (two : List ℕ) → two ≡ paste one 1 t (length t) →
-          take (1 + 8 * n) two ++ (twoBytes 0 ++ drop (1 + 8 * n + 2) two) ≡ state_of n t [] (drop (3 + 8 * n) state)
+          take (1 + 8 * n) two ++ (two_bytes 0 ++ drop (1 + 8 * n + 2) two) ≡ state_of n t [] (drop (3 + 8 * n) state)
       unfolding state_of
       stored two is =
           let long : length t ≡ 8 * n = table-long accepts in
@@ -65,10 +65,10 @@ module _ (n : ℕ) (t : List ℕ) {answer : Opened} (told : answer ≡ opened n 
           let tail : drop (1 + 8 * n + 2) two ≡ drop (3 + 8 * n) state =
           sym (drop-drop 2 (1 + 8 * n) two) ∙ ap (drop 2) (ap₂ drop width is ∙ drop-paste one 1 t (length t) inside (omega arith)) ∙
           drop-drop 2 (1 + length t) one ∙ ap (λ (k : ℕ). drop k one) behind ∙ drop-set-lt (3 + 8 * n) state 0 n (omega arith) in
-          ap₂ (λ (x y : List ℕ). x ++ (twoBytes 0 ++ y)) head tail
+          ap₂ (λ (x y : List ℕ). x ++ (two_bytes 0 ++ y)) head tail
 
       pub begun-stored : {two three : List ℕ} → two ≡ paste one 1 t (length t) →
-          three ≡ take (1 + 8 * n) two ++ (twoBytes 0 ++ drop (1 + 8 * n + 2) two) → resulting (Length (3 + 8 * n)) three ≡ begun n t state
+          three ≡ take (1 + 8 * n) two ++ (two_bytes 0 ++ drop (1 + 8 * n + 2) two) → resulting (Length (3 + 8 * n)) three ≡ begun n t state
       begun-stored {two} is next =
           ap (resulting (Length (3 + 8 * n))) (next ∙ stored two is) ∙
           begun-accepted accepts true (le-leb (1 + 8 * n + 2 + 4854) (length state) room)

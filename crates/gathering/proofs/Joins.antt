@@ -10,7 +10,7 @@ use lib.Dec.{leb, eqb}
 use lib.ListN.{length, take, drop, length-append, length-drop, take-append-drop, drop_of_length-le}
 use lib.Seq.{take_all, length-take-le, take-take, take-append-le, drop_at}
 use Rattle.graphs.specs.Rows.{Row}
-use Rattle.graphs.specs.Number.{Canonical, canonical, manyNodes, manyLinks, written}
+use Rattle.graphs.specs.Number.{Canonical, canonical, many_nodes, many_links, written}
 use Rattle.lattice.specs.Label.{Label}
 use Rattle.acceptance.specs.declared.TableFault.{TableFault}
 use Rattle.acceptance.specs.declared.Opened.{Opened}
@@ -19,25 +19,25 @@ use Rattle.acceptance.specs.Reply.{opened}
 use Rattle.layout.specs.Layout.{rows_of}
 use Rattle.encoder.specs.Encode.{encoded}
 use Rattle.encode.specs.declared.Written.TheVariants as outcome
-use Rattle.encode.specs.Encode.{yielding, fitted, writtenOut}
+use Rattle.encode.specs.Encode.{yielding, fitted, written_out}
 use Rattle.record.specs.declared.GraphFault.{GraphFault}
 use Rattle.record.specs.declared.reading.Verdict.{Verdict}
 use Rattle.record.specs.declared.reading.Verdict.TheVariants.{Accepted, Refused}
-use Rattle.record.specs.Read.{Reading, refused, accepted, reading, graphOfRows}
+use Rattle.record.specs.Read.{Reading, refused, accepted, reading, graph_of_rows}
 use Rattle.record.specs.Reads.{ReadsAs}
 use Rattle.replies.specs.declared.Side.TheVariants.{First}
 use Rattle.replies.specs.declared.Reply.{Reply}
 use Rattle.replies.specs.declared.Reply.TheVariants.{Length, Table, Graph}
 use Rattle.replies.specs.Reply.{Result, resulting, result_of, refusing, length_of}
-use Rattle.pairs.specs.Pair.{readBoth}
+use Rattle.pairs.specs.Pair.{read_both}
 use Rattle.pairs.proofs.Readings.{told-refused, told-accepted}
-use Rattle.engine.specs.Rewriting.{rewritten, rewrittenRows}
+use Rattle.engine.specs.Rewriting.{rewritten, rewritten_rows}
 use Rattle.engine.specs.Generalizing.{generalized}
 use Rattle.calls.specs.Calls.{checked, rewriting, generalizing}
 use Rattle.gathering.specs.declared.parts.Parts.{Parts}
-use Rattle.gathering.specs.Gathering.{twoBytes, types_in, tableIn, headIn, roomIn, first_of, gatheredIn, joining, settledBy, settled, adding}
+use Rattle.gathering.specs.Gathering.{two_bytes, types_in, table_in, head_in, room_in, first_of, gathered_in, joining, settled_by, settled, adding}
 use Rattle.gathering.specs.Parts.{PartsOf}
-use Rattle.gathering.specs.Joined.{joined, joinedRows, settledFor, settledAt}
+use Rattle.gathering.specs.Joined.{joined, joined_rows, settled_for, settled_at}
 use Rattle.gathering.proofs.Told.{none-some}
 use Rattle.gathering.proofs.Answers.{table-told}
 
@@ -48,22 +48,22 @@ module _ (n : ℕ) (t bytes : List ℕ) (gathered : ℕ) (room : List ℕ) {v : 
     where
       go : (o : Option (List ℕ)) → joined n t o bytes room ≡ refusing (Graph fault First) room
       go none = ap (λ (i : Reading). rewritten i room) (told-refused tells fault e)
-      go (some part) = ap (λ (i : Reading). readBoth (λ r. refusing r room) i (reading n part) (generalized n t room)) (told-refused tells fault e)
+      go (some part) = ap (λ (i : Reading). read_both (λ r. refusing r room) i (reading n part) (generalized n t room)) (told-refused tells fault e)
 
   -- The addition where nothing is gathered.
-  pub joined-none : gathered ≡ 0 → v ≡ Accepted → rewrittenRows room (rows_of ws) ≡ joined n t (first_of gathered room) bytes room
+  pub joined-none : gathered ≡ 0 → v ≡ Accepted → rewritten_rows room (rows_of ws) ≡ joined n t (first_of gathered room) bytes room
   joined-none h e =
       sym (ap (λ (l : ℕ). joined n t (first_of l room) bytes room) h ∙ ap (λ (i : Reading). rewritten i room) (told-accepted tells e).is)
 
   -- The addition where something is gathered.
   pub joined-some : (gathered ≡ 0 → ⊥) → v ≡ Accepted →
-      joinedRows n t room (rows_of ws) (reading n (take gathered room)) ≡ joined n t (first_of gathered room) bytes room
+      joined_rows n t room (rows_of ws) (reading n (take gathered room)) ≡ joined n t (first_of gathered room) bytes room
   joined-some h e =
       sym (ap (λ (b : Bool). joined n t (cond b none (some (take gathered room))) bytes room) (ne_eqb gathered 0 h) ∙
-      ap (λ (i : Reading). readBoth (λ r. refusing r room) i (reading n (take gathered room)) (generalized n t room)) (told-accepted tells e).is ∙
+      ap (λ (i : Reading). read_both (λ r. refusing r room) i (reading n (take gathered room)) (generalized n t room)) (told-accepted tells e).is ∙
       second (reading n (take gathered room)))
     where
-      second : (i : Reading) → readBoth (λ r. refusing r room) (accepted (rows_of ws)) i (generalized n t room) ≡ joinedRows n t room (rows_of ws) i
+      second : (i : Reading) → read_both (λ r. refusing r room) (accepted (rows_of ws)) i (generalized n t room) ≡ joined_rows n t room (rows_of ws) i
       second (refused fault) = refl
       second (accepted others) = refl
 
@@ -83,10 +83,10 @@ module _ (out : List ℕ) where
       go true e = record { kept = λ d. none-some (sym d); takes = λ l d. omega (arith, leb-true (length (encoded rows)) (length out) e) }
       go false e = record { kept = λ d. refl; takes = λ l d. none-some d }
 
-  written_keeps : (c : Canonical Label) → Keeps out (result_of (writtenOut c out))
-  unfolding writtenOut
-  written_keeps manyNodes = record { kept = λ d. refl; takes = λ l d. none-some d }
-  written_keeps manyLinks = record { kept = λ d. refl; takes = λ l d. none-some d }
+  written_keeps : (c : Canonical Label) → Keeps out (result_of (written_out c out))
+  unfolding written_out
+  written_keeps many_nodes = record { kept = λ d. refl; takes = λ l d. none-some d }
+  written_keeps many_links = record { kept = λ d. refl; takes = λ l d. none-some d }
   written_keeps (written rows) = fitted-keeps rows
 
   pub joined_keeps : (n : ℕ) (t : List ℕ) (o : Option (List ℕ)) (bytes : List ℕ) → Keeps out (joined n t o bytes out)
@@ -95,10 +95,10 @@ module _ (out : List ℕ) where
     where
       one : (i : Reading) → Keeps out (rewritten i out)
       one (refused fault) = record { kept = λ d. refl; takes = λ l d. none-some d }
-      one (accepted rows) = written_keeps (canonical eqb (graphOfRows rows))
+      one (accepted rows) = written_keeps (canonical eqb (graph_of_rows rows))
   joined_keeps n t (some part) bytes = both (reading n bytes) (reading n part)
     where
-      both : (i j : Reading) → Keeps out (readBoth (λ r. refusing r out) i j (generalized n t out))
+      both : (i j : Reading) → Keeps out (read_both (λ r. refusing r out) i j (generalized n t out))
       both (refused fault) j = record { kept = λ d. refl; takes = λ l d. none-some d }
       both (accepted rows) (refused fault) = record { kept = λ d. refl; takes = λ l d. none-some d }
       both (accepted rows) (accepted others) = written_keeps _
@@ -114,24 +114,24 @@ module _ {state : List ℕ} {p : Parts} (parts : PartsOf state p) {answer : Open
     (told : answer ≡ opened p.types (take (p.end - p.start) (drop p.start state))) (bytes : List ℕ) where
   -- The addition, by the parts that the definitions name.
   abbrev whole : Result
-  whole = joined (types_in state) (tableIn state) (gatheredIn state) bytes (roomIn state)
+  whole = joined (types_in state) (table_in state) (gathered_in state) bytes (room_in state)
 
-  adding-checked : adding state bytes ≡ settled state (checked (λ r. refusing r (roomIn state)) answer whole)
+  adding-checked : adding state bytes ≡ settled state (checked (λ r. refusing r (room_in state)) answer whole)
   unfolding adding
   adding-checked =
       ap (settled state)
-      (joining-checked (types_in state) (tableIn state) (gatheredIn state) bytes (roomIn state) ∙
-      ap (λ (o : Opened). checked (λ r. refusing r (roomIn state)) o whole) (table-told parts told))
+      (joining-checked (types_in state) (table_in state) (gathered_in state) bytes (room_in state) ∙
+      ap (λ (o : Opened). checked (λ r. refusing r (room_in state)) o whole) (table-told parts told))
 
   pub add-refused : (fault : TableFault) → answer ≡ table.Refused fault → resulting (Table fault) state ≡ adding state bytes
   add-refused fault e =
-      sym (adding-checked ∙ ap (λ (o : Opened). settled state (checked (λ r. refusing r (roomIn state)) o whole)) e)
+      sym (adding-checked ∙ ap (λ (o : Opened). settled state (checked (λ r. refusing r (room_in state)) o whole)) e)
 
   -- the room as it is lent
   abbrev lent : List ℕ
   lent = take (length state - p.room) (drop p.room state)
 
-  lent_is : lent ≡ roomIn state
+  lent_is : lent ≡ room_in state
   lent_is = take_all (length state - p.room) (drop p.room state) (omega (arith, length-drop p.room state)) ∙ parts.room-is
 
   module _ {reply : Reply} {new : List ℕ}
@@ -141,11 +141,11 @@ module _ {state : List ℕ} {p : Parts} (parts : PartsOf state p) {answer : Open
     joined_is =
         joins ∙
         ap₂ (λ (k : ℕ) (t : List ℕ). joined k t (first_of p.gathered lent) bytes lent) parts.types_are parts.table_is ∙
-        ap₂ (λ (l : ℕ) (r : List ℕ). joined (types_in state) (tableIn state) (first_of l r) bytes r) parts.gathered-is lent_is
+        ap₂ (λ (l : ℕ) (r : List ℕ). joined (types_in state) (table_in state) (first_of l r) bytes r) parts.gathered-is lent_is
 
-    keeps : Keeps (roomIn state) (resulting reply new)
+    keeps : Keeps (room_in state) (resulting reply new)
     keeps =
-        subst (Keeps (roomIn state)) (sym joined_is) (joined_keeps (roomIn state) (types_in state) (tableIn state) (gatheredIn state) bytes)
+        subst (Keeps (room_in state)) (sym joined_is) (joined_keeps (room_in state) (types_in state) (table_in state) (gathered_in state) bytes)
 
     long : length (take p.room state) ≡ p.room
     long = length-take-le p.room state parts.room-low
@@ -164,21 +164,21 @@ module _ {state : List ℕ} {p : Parts} (parts : PartsOf state p) {answer : Open
         (drop_of_length-le (drop p.room state) {i = length state - p.room} (omega (arith, length-drop p.room state))) ∙
         ap (λ (x : List ℕ). take p.room state ++ x) (append-nil new)
 
-    settles : (o : Option ℕ) → length_of reply ≡ o → settledFor p.end (take p.room state ++ new) reply o ≡ settledBy state o (resulting reply new)
+    settles : (o : Option ℕ) → length_of reply ≡ o → settled_for p.end (take p.room state ++ new) reply o ≡ settled_by state o (resulting reply new)
     settles none e =
         ap (refusing reply)
         (ap (λ (x : List ℕ). take p.room state ++ x) (keeps.kept e ∙ sym parts.room-is) ∙ take-append-drop p.room state)
     settles (some l) e =
         let ends = parts.whole (keeps.takes l e) in
         let inside : p.end ≤ p.room = omega (arith, ends.1) in
-        let head : take p.end (take p.room state ++ new) ≡ headIn state =
+        let head : take p.end (take p.room state ++ new) ≡ head_in state =
         take-append-le p.end (take p.room state) new (omega (arith, inside, long)) ∙
         take-take p.end p.room state inside ∙ ap (λ (k : ℕ). take k state) ends.0 in
         let tail : drop (p.end + 2) (take p.room state ++ new) ≡ new =
         drop_at (take p.room state) new (p.end + 2) (long ∙ ends.1) in
-        ap₂ (λ (x y : List ℕ). resulting reply (x ++ (twoBytes l ++ y))) head tail
+        ap₂ (λ (x y : List ℕ). resulting reply (x ++ (two_bytes l ++ y))) head tail
 
-    pub add-accepted : answer ≡ table.Accepted → settledAt p.end after reply ≡ adding state bytes
+    pub add-accepted : answer ≡ table.Accepted → settled_at p.end after reply ≡ adding state bytes
     add-accepted e =
-        ap (λ (s : List ℕ). settledAt p.end s reply) after_is ∙ settles (length_of reply) refl ∙
-        sym (adding-checked ∙ ap (λ (o : Opened). settled state (checked (λ r. refusing r (roomIn state)) o whole)) e ∙ ap (settled state) (sym joined_is))
+        ap (λ (s : List ℕ). settled_at p.end s reply) after_is ∙ settles (length_of reply) refl ∙
+        sym (adding-checked ∙ ap (λ (o : Opened). settled state (checked (λ r. refusing r (room_in state)) o whole)) e ∙ ap (settled state) (sym joined_is))

@@ -6,7 +6,7 @@ use Prim.Native.Nat.{ℕ, suc, ◌+◌, ◌*◌, ◌-◌, ◌/◌, ◌%◌, ◌�
 use native.Mathlib.Omega.{arith}
 use lib.ListN.{length, take, drop, get_or, set, length-drop, length-set, drop_of_length-le}
 use lib.Seq.{take_all, drop-length, drop-drop, get_or-drop, set_split, take-suc-set, drop-set-lt, append_snoc, paste, paste-zero, paste-suc, length-paste}
-use Rattle.gathering.specs.Gathering.{twoBytes, behindTable, roomIn, length_at}
+use Rattle.gathering.specs.Gathering.{two_bytes, behind_table, room_in, length_at}
 use Rattle.gathering.specs.Parts.{Span, PartsOf}
 
 -- A number of 16 bits is read back from its two bytes.
@@ -52,9 +52,9 @@ pub parts-found : (state : List ℕ) {types start end room gathered last : ℕ} 
     Span state start (8 * types) end → Span state end 2 room → gathered ≡ length_at (drop end state) → Span state room gathered last →
     PartsOf state (record { types = types; start = start; end = end; room = room; gathered = gathered; last = last })
 parts-found state {types} {start} {end} {room} {gathered} {last} e first table two told part =
-    let behind : drop end state ≡ behindTable state =
+    let behind : drop end state ≡ behind_table state =
     table.drops ∙ ap₂ (λ (k : ℕ) (l : List ℕ). drop (8 * k) l) e first.drops in
-    let space : drop room state ≡ roomIn state = two.drops ∙ ap (drop 2) behind in
+    let space : drop room state ≡ room_in state = two.drops ∙ ap (drop 2) behind in
     record {
       types_are = e;
       start-low = table.low;
@@ -90,8 +90,8 @@ two-stored state at a b h =
 
 -- Two stores put a length.
 pub length-put : (state : List ℕ) (at count : ℕ) → at + 2 ≤ length state →
-    set (set state at (count % 256)) (at + 1) (count / 256 % 256) ≡ take at state ++ (twoBytes count ++ drop (at + 2) state)
-unfolding twoBytes
+    set (set state at (count % 256)) (at + 1) (count / 256 % 256) ≡ take at state ++ (two_bytes count ++ drop (at + 2) state)
+unfolding two_bytes
 length-put state at count h = two-stored state at (count % 256) (count / 256 % 256) h
 
 -- While bytes are copied: the first i bytes stand in the state.

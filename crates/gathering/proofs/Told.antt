@@ -11,11 +11,11 @@ use Rattle.replies.specs.declared.answers.Answer.{Answer}
 use Rattle.replies.specs.declared.answers.Answer.TheVariants as answer
 use Rattle.replies.specs.declared.Reply.{Reply}
 use Rattle.replies.specs.declared.Reply.TheVariants.{Length}
-use Rattle.replies.specs.Reply.{resulting, answer_of, length_of, lengthIn}
+use Rattle.replies.specs.Reply.{resulting, answer_of, length_of, length_in}
 use Rattle.replies.specs.contracts.Reply.{the_type}
 use Rattle.replies.proofs.Numbers.{answer-injective}
-use Rattle.gathering.specs.Gathering.{twoBytes}
-use Rattle.gathering.specs.Joined.{settledFor, settledAt}
+use Rattle.gathering.specs.Gathering.{two_bytes}
+use Rattle.gathering.specs.Joined.{settled_for, settled_at}
 
 pub none-some : {A X : Type 0} {x : A} → none ≡ some x → X
 none-some e = let z : ◌≡◌ {A = ℕ} 0 1 = cc in absurd (omega arith)
@@ -24,7 +24,7 @@ none-some e = let z : ◌≡◌ {A = ℕ} 0 1 = cc in absurd (omega arith)
 pub length-told : (r : Reply) (l : ℕ) → length_of r ≡ some l → r ≡ Length l
 length-told r l e = answer-injective r (Length l) (go (answer_of r) e)
   where
-    go : (k : Answer) → lengthIn k ≡ some l → k ≡ answer.Length l
+    go : (k : Answer) → length_in k ≡ some l → k ≡ answer.Length l
     go (answer.Length m) q = let d : m ≡ l = cc in ap answer.Length d
     go answer.Same q = none-some q
     go answer.Under q = none-some q
@@ -52,10 +52,10 @@ no_length r other = go (length_of r) refl
 
 module _ (at : ℕ) (state : List ℕ) (reply : Reply) where
   -- Any other reply leaves the state as it was.
-  pub settled-none : length_of reply ≡ none → resulting reply state ≡ settledAt at state reply
-  settled-none e = sym (ap (settledFor at state reply) e)
+  pub settled-none : length_of reply ≡ none → resulting reply state ≡ settled_at at state reply
+  settled-none e = sym (ap (settled_for at state reply) e)
 
   -- A length that is told is put.
-  pub settled-some : (l : ℕ) {new : List ℕ} → reply ≡ Length l → new ≡ take at state ++ (twoBytes l ++ drop (at + 2) state) →
-      resulting (Length l) new ≡ settledAt at state reply
-  settled-some l e put = ap (resulting (Length l)) put ∙ sym (ap (settledAt at state) e)
+  pub settled-some : (l : ℕ) {new : List ℕ} → reply ≡ Length l → new ≡ take at state ++ (two_bytes l ++ drop (at + 2) state) →
+      resulting (Length l) new ≡ settled_at at state reply
+  settled-some l e put = ap (resulting (Length l)) put ∙ sym (ap (settled_at at state) e)

@@ -9,12 +9,12 @@ use Rattle.replies.specs.declared.Side.TheVariants.{First, Second}
 use Rattle.replies.specs.declared.Reply.{Reply}
 use Rattle.replies.specs.declared.Reply.TheVariants.{Length, Graph, NoRoom, NothingGathered}
 use Rattle.replies.specs.Reply.{Result, resulting, refusing, length_of}
-use Rattle.engine.specs.Rewriting.{rewrittenRows}
+use Rattle.engine.specs.Rewriting.{rewritten_rows}
 use Rattle.calls.specs.Calls.{checked, rewriting, ordering, generalizing}
 
 -- 2 bytes, low byte first
-unfoldable pub twoBytes : ℕ → List ℕ
-twoBytes x = x % 256 ∷ x / 256 % 256 ∷ []
+unfoldable pub two_bytes : ℕ → List ℕ
+two_bytes x = x % 256 ∷ x / 256 % 256 ∷ []
 
 -- Room for the longest record: "The longest record becomes 4,854 bytes" (Paper 7).
 unfoldable pub blank : List ℕ
@@ -22,7 +22,7 @@ blank = replicate 4854 0
 
 -- The state over a table. `part` is the record of the common part, no bytes before the first addition, and `rest` stands behind it.
 unfoldable pub state_of : ℕ → List ℕ → List ℕ → List ℕ → List ℕ
-state_of n t part rest = n ∷ (t ++ (twoBytes (length part) ++ (part ++ rest)))
+state_of n t part rest = n ∷ (t ++ (two_bytes (length part) ++ (part ++ rest)))
 
 -- "A gathering is begun with one accepted table": begin checks 1 to 3, then 8, since a gathering "can hold the longest record". The reply tells
 -- the used length.
@@ -40,20 +40,20 @@ abbrev pub types_in : List ℕ → ℕ
 types_in state = get_or state 0 0
 
 -- The table.
-abbrev pub tableIn : List ℕ → List ℕ
-tableIn state = take (8 * types_in state) (drop 1 state)
+abbrev pub table_in : List ℕ → List ℕ
+table_in state = take (8 * types_in state) (drop 1 state)
 
 -- n and the table
-abbrev pub headIn : List ℕ → List ℕ
-headIn state = take (1 + 8 * types_in state) state
+abbrev pub head_in : List ℕ → List ℕ
+head_in state = take (1 + 8 * types_in state) state
 
 -- what stands behind the table: the length, then the room
-abbrev pub behindTable : List ℕ → List ℕ
-behindTable state = drop (8 * types_in state) (drop 1 state)
+abbrev pub behind_table : List ℕ → List ℕ
+behind_table state = drop (8 * types_in state) (drop 1 state)
 
 -- The room, which begins with the record of the common part so far.
-abbrev pub roomIn : List ℕ → List ℕ
-roomIn state = drop 2 (behindTable state)
+abbrev pub room_in : List ℕ → List ℕ
+room_in state = drop 2 (behind_table state)
 
 -- The number in the first two bytes, low byte first.
 abbrev pub length_at : List ℕ → ℕ
@@ -64,8 +64,8 @@ abbrev pub first_of : ℕ → List ℕ → Option (List ℕ)
 first_of l room = cond (eqb l 0) none (some (take l room))
 
 -- the common part so far: none before the first addition
-abbrev pub gatheredIn : List ℕ → Option (List ℕ)
-gatheredIn state = first_of (length_at (behindTable state)) (roomIn state)
+abbrev pub gathered_in : List ℕ → Option (List ℕ)
+gathered_in state = first_of (length_at (behind_table state)) (room_in state)
 
 -- An addition checks the table's 1 to 3, the program's 4 to 7 as the first graph, the 4 to 7 of what was gathered as the second, then 11 and 8.
 -- The first addition writes the program's record; each later one writes the common part of the program and what was gathered.
@@ -74,44 +74,44 @@ joining n t none bytes out = rewriting n t bytes out
 joining n t (some part) bytes out = generalizing n t bytes part out
 
 -- "A refused addition changes nothing"; else the length and the record are written, and the bytes behind them stay.
-abbrev pub settledBy : List ℕ → Option ℕ → Result → Result
-settledBy state none r = refusing r.reply state
-settledBy state (some l) r = resulting r.reply (headIn state ++ (twoBytes l ++ r.output))
+abbrev pub settled_by : List ℕ → Option ℕ → Result → Result
+settled_by state none r = refusing r.reply state
+settled_by state (some l) r = resulting r.reply (head_in state ++ (two_bytes l ++ r.output))
 
--- `settledBy`, by the length that the reply tells.
+-- `settled_by`, by the length that the reply tells.
 abbrev pub settled : List ℕ → Result → Result
-settled state r = settledBy state (length_of r.reply) r
+settled state r = settled_by state (length_of r.reply) r
 
 -- The call that adds a program: its reply, and the state after it.
 unfoldable pub adding : List ℕ → List ℕ → Result
-adding state bytes = settled state (joining (types_in state) (tableIn state) (gatheredIn state) bytes (roomIn state))
+adding state bytes = settled state (joining (types_in state) (table_in state) (gathered_in state) bytes (room_in state))
 
 -- "the pane may put a program beside the unfinished gathering and learn its order, as first graph, to the common part of those added so far".
 -- Before the first addition the reply is 16, "checked after the graph's 4 to 7".
-abbrev pub nothingAfter : Reading → Reply
-nothingAfter (refused fault) = Graph fault First
-nothingAfter (accepted rows) = NothingGathered
+abbrev pub nothing_after : Reading → Reply
+nothing_after (refused fault) = Graph fault First
+nothing_after (accepted rows) = NothingGathered
 
 -- The order of a program to what is gathered, or 16 where nothing is gathered.
-abbrev pub comparedWith : ℕ → List ℕ → Option (List ℕ) → List ℕ → Reply
-comparedWith n t none bytes = checked (λ r. r) (opened n t) (nothingAfter (reading n bytes))
-comparedWith n t (some part) bytes = ordering n t bytes part
+abbrev pub compared_with : ℕ → List ℕ → Option (List ℕ) → List ℕ → Reply
+compared_with n t none bytes = checked (λ r. r) (opened n t) (nothing_after (reading n bytes))
+compared_with n t (some part) bytes = ordering n t bytes part
 
 -- The call for the order: its reply. The state stays as it was.
 unfoldable pub comparing : List ℕ → List ℕ → Reply
-comparing state bytes = comparedWith (types_in state) (tableIn state) (gatheredIn state) bytes
+comparing state bytes = compared_with (types_in state) (table_in state) (gathered_in state) bytes
 
 -- "Finishing writes the common part and leaves the gathering open": 16 comes "before 8", and what was gathered counts as the second graph.
-abbrev pub writtenFrom : Reading → List ℕ → Result
-writtenFrom (refused fault) out = refusing (Graph fault Second) out
-writtenFrom (accepted rows) out = rewrittenRows out rows
+abbrev pub written_from : Reading → List ℕ → Result
+written_from (refused fault) out = refusing (Graph fault Second) out
+written_from (accepted rows) out = rewritten_rows out rows
 
 -- What is gathered, in written form, or 16 where nothing is gathered.
-abbrev pub finishedWith : ℕ → Option (List ℕ) → List ℕ → Result
-finishedWith n none out = refusing NothingGathered out
-finishedWith n (some part) out = writtenFrom (reading n part) out
+abbrev pub finished_with : ℕ → Option (List ℕ) → List ℕ → Result
+finished_with n none out = refusing NothingGathered out
+finished_with n (some part) out = written_from (reading n part) out
 
 -- The call that finishes: its reply, and the output after it.
 unfoldable pub finishing : List ℕ → List ℕ → Result
 finishing state out =
-    checked (λ r. refusing r out) (opened (types_in state) (tableIn state)) (finishedWith (types_in state) (gatheredIn state) out)
+    checked (λ r. refusing r out) (opened (types_in state) (table_in state)) (finished_with (types_in state) (gathered_in state) out)

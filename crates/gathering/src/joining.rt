@@ -8,7 +8,7 @@ ghost use Rattle.record.specs.Reads.{Loaded};
 ghost use Rattle.replies.specs.declared.Reply.TheVariants.{Length};
 ghost use Rattle.replies.specs.Reply.{resulting};
 ghost use Rattle.gathering.specs.Gathering.{first_of};
-ghost use Rattle.gathering.specs.Joined.{joined, joinedRows, settledAt};
+ghost use Rattle.gathering.specs.Joined.{joined, joined_rows, settled_at};
 
 use record::reading::Verdict;
 use replies::{Reply, Side};
@@ -51,7 +51,7 @@ fn join_graph<'a>(
 ) -> Reply
     requires { ((t : List ℕ) × OpenedFor true n t sets.now cells.now) × Loaded n program.now }
     ensures { (t : List ℕ) → OpenedFor true n t sets.now cells.now →
-        resulting result room.new ≡ joinedRows n t room.old (rows_of program.now) (reading n (take gathered room.old)) }
+        resulting result room.new ≡ joined_rows n t room.old (rows_of program.now) (reading n (take gathered room.old)) }
 {
     let end = crate::parts::end_of(room, 0, gathered);
     let mut part = [0u16; layout::LONGEST];
@@ -65,7 +65,7 @@ fn join_graph<'a>(
 // Writes the length that a reply tells as two bytes from `at` on. Answers that reply.
 pub fn settle(at: usize, reply: Reply, state: &mut [u8]) -> Reply
     requires { (l : ℕ) → reply ≡ Length l → at + 2 ≤ length state.old }
-    ensures { resulting result state.new ≡ settledAt at state.old reply }
+    ensures { resulting result state.new ≡ settled_at at state.old reply }
 {
     let Reply::Length(length) = reply else {
         return reply;

@@ -7,7 +7,7 @@
 ghost use Rattle.std.specs.Prelude.{◌≡◌};
 ghost use Rattle.record.specs.Read.{reading};
 ghost use Rattle.replies.specs.Reply.{resulting};
-ghost use Rattle.gathering.specs.Gathering.{adding, begun, comparing, finishing, nothingAfter, writtenFrom};
+ghost use Rattle.gathering.specs.Gathering.{adding, begun, comparing, finishing, nothing_after, written_from};
 
 use acceptance::Opened;
 use record::reading::Verdict;
@@ -85,7 +85,7 @@ pub fn order(state: &[u8], bytes: &[u8]) -> Reply
 
 // The order's answer where nothing is gathered: the program's refusal, else 16.
 fn nothing_after(n: usize, bytes: &[u8]) -> Reply
-    ensures { result ≡ nothingAfter (reading n bytes.now) }
+    ensures { result ≡ nothing_after (reading n bytes.now) }
 {
     let mut program = [0u16; layout::LONGEST];
     let verdict = record::reading::read(n, bytes, &mut program);
@@ -119,7 +119,7 @@ pub fn finish(state: &[u8], out: &mut [u8]) -> Reply
 
 // Writes the record of what is gathered.
 fn write(n: usize, part: &[u8], out: &mut [u8]) -> Reply
-    ensures { resulting result out.new ≡ writtenFrom (reading n part.now) out.old }
+    ensures { resulting result out.new ≡ written_from (reading n part.now) out.old }
 {
     let mut graph = [0u16; layout::LONGEST];
     let verdict = record::reading::read(n, part, &mut graph);

@@ -2,7 +2,7 @@
 
 ghost use Rattle.std.specs.Prelude.{◌≡◌, ◌++◌, ◌+◌, ◌≤◌, ◌<◌, drop, get_or, length, take};
 ghost use Rattle.std.proofs.Math.Seq.{paste};
-ghost use Rattle.gathering.specs.Gathering.{length_at, twoBytes};
+ghost use Rattle.gathering.specs.Gathering.{length_at, two_bytes};
 ghost use Rattle.gathering.specs.Parts.{PartsOf, Span};
 
 // The number of types, where the table starts and ends, where the room starts, how many bytes are gathered, and where they end. A part that is
@@ -69,7 +69,7 @@ pub fn find(state: &[u8]) -> Parts
 // Writes a length into two bytes from a place on.
 pub fn put_length(at: usize, count: usize, state: &mut [u8])
     requires { at + 2 ≤ length state.old }
-    ensures { state.new ≡ take at state.old ++ (twoBytes count ++ drop (at + 2) state.old) }
+    ensures { state.new ≡ take at state.old ++ (two_bytes count ++ drop (at + 2) state.old) }
 {
     state[at] = (count % 256) as u8;
     state[at + 1] = (count / 256 % 256) as u8;

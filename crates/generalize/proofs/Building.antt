@@ -11,9 +11,9 @@ use Rattle.graphs.specs.Graph.{Reached}
 use Rattle.graphs.specs.Rows.{Row}
 use Rattle.graphs.proofs.Walk.{reached-root, reached-link}
 use Rattle.lattice.specs.Label.{Label, no_label}
-use Rattle.lattice.specs.Labels.{Known, joinRanged}
-use Rattle.layout.specs.Layout.{Recorded, Node, header, size, labelFrom, label_at, linksBetween, linksAt, rows_from}
-use Rattle.layout.specs.Builder.{Built, Open, Same, putLabel}
+use Rattle.lattice.specs.Labels.{Known, join_ranged}
+use Rattle.layout.specs.Layout.{Recorded, Node, header, size, label_from, label_at, links_between, links_at, rows_from}
+use Rattle.layout.specs.Builder.{Built, Open, Same, put_label}
 use Rattle.layout.proofs.Rows.{row-at, length-rows}
 use Rattle.layout.proofs.Builder.{put-before, label-put, label_same, length-put, built-begin, built-kept, rows-kept, row_closes, closed-rows}
 use Rattle.product.specs.declared.Spread.{Spread}
@@ -42,7 +42,7 @@ pair-numbered {queue} x i n =
 
 -- the join of the labels of a pair
 abbrev pub joined : (ℕ → ℕ → ℕ) → List ℕ → List ℕ → ℕ × ℕ → Label
-joined joins a b x = joinRanged joins (label_at a x.0) (label_at b x.1)
+joined joins a b x = join_ranged joins (label_at a x.0) (label_at b x.1)
 
 pub record Building (joins : ℕ → ℕ → ℕ) (a b : List ℕ) (head count at : ℕ) (marks queue words : List ℕ) : Type 0 where
   pub left : Recorded a
@@ -59,7 +59,7 @@ pub record Building (joins : ℕ → ℕ → ℕ) (a b : List ℕ) (head count a
   pub built : Built words base head at
   pub first : get_or words 1 0 ≡ base
   pub labels : (i : ℕ) → i < head → label_at words i ≡ joined joins a b (pair_of (get_or queue i 0))
-  pub rows : (i : ℕ) → i < head → Matched (common a b (pair_of (get_or queue i 0))) queue count 64 (linksAt words i)
+  pub rows : (i : ℕ) → i < head → Matched (common a b (pair_of (get_or queue i 0))) queue count 64 (links_at words i)
 
 -- At the start, the root's pair is known and has no row.
 pub build-start : (joins : ℕ → ℕ → ℕ) {a b : List ℕ} → Recorded a → Recorded b → ((n : ℕ) × Joinable n joins a b) → (marks queue words : List ℕ) →
@@ -137,7 +137,7 @@ module _ {joins : ℕ → ℕ → ℕ} {a b : List ℕ} {head count at : ℕ} {m
     (fits : at + (header + 64) ≤ length words) where
   -- The next pair gets its row.
   module _ (label : Label) (is : label ≡ joined joins a b (pair_of (get_or queue head 0))) (opened : List ℕ)
-      (opens : opened ≡ putLabel words at label) (marks' queue' words' : List ℕ) (now : Spread)
+      (opens : opened ≡ put_label words at label) (marks' queue' words' : List ℕ) (now : Spread)
       (added : Adds (common a b (pair_of (get_or queue head 0))) queue opened (record { at = at + header; count = count }) 64
       marks' queue' words' now) where
     low : head + 2 ≤ at
@@ -165,32 +165,32 @@ module _ {joins : ℕ → ℕ → ℕ} {a b : List ℕ} {head count at : ℕ} {m
     abbrev new : List ℕ
     new = set words' (head + 2) now.at
 
-    label-now : labelFrom words' at ≡ label
+    label-now : label_from words' at ≡ label
     label-now =
-        label_same opened words' at (λ k l h. added.kept k (omega arith) h) ∙ ap (λ (ws : List ℕ). labelFrom ws at) opens ∙
+        label_same opened words' at (λ k l h. added.kept k (omega arith) h) ∙ ap (λ (ws : List ℕ). label_from ws at) opens ∙
         label-put words at label (omega arith) (subst (λ (l : Label). l.highest ≤ 255) (sym is) (joined-known s head next).highest)
 
-    rows_are : rows_from new 0 (head + 1) ≡ rows_from words 0 head ++ ((label, linksBetween words' (at + header) now.at) ∷ [])
+    rows_are : rows_from new 0 (head + 1) ≡ rows_from words 0 head ++ ((label, links_between words' (at + header) now.at) ∷ [])
     rows_are =
         closed-rows filled listed ∙
-        ap₂ (λ (rs : List (Row Label)) (l : Label). rs ++ ((l, linksBetween words' (at + header) now.at) ∷ []))
+        ap₂ (λ (rs : List (Row Label)) (l : Label). rs ++ ((l, links_between words' (at + header) now.at) ∷ []))
         (rows-kept s.built words' long-now (λ k l h. kept k (omega arith) (omega (arith, low))) (λ k l h. kept k (omega arith) h)) label-now
 
     -- An earlier row stays as it was.
-    row_kept : (i : ℕ) → i < head → ◌≡◌ {A = Row Label} (label_at new i, linksAt new i) (label_at words i, linksAt words i)
+    row_kept : (i : ℕ) → i < head → ◌≡◌ {A = Row Label} (label_at new i, links_at new i) (label_at words i, links_at words i)
     row_kept i h =
         sym (row-at new (head + 1) 0 i i (no_label, []) (omega arith) (omega arith)) ∙
         ap (λ (rs : List (Row Label)). get_or rs i (no_label, [])) rows_are ∙
-        get_or-append (rows_from words 0 head) ((label, linksBetween words' (at + header) now.at) ∷ []) (no_label, []) i
+        get_or-append (rows_from words 0 head) ((label, links_between words' (at + header) now.at) ∷ []) (no_label, []) i
         (omega (arith, length-rows words 0 head)) ∙
         row-at words head 0 i i (no_label, []) (omega arith) h
 
     -- The last row is the one that was added.
-    row_last : (i : ℕ) → i ≡ head → ◌≡◌ {A = Row Label} (label_at new i, linksAt new i) (label, linksBetween words' (at + header) now.at)
+    row_last : (i : ℕ) → i ≡ head → ◌≡◌ {A = Row Label} (label_at new i, links_at new i) (label, links_between words' (at + header) now.at)
     row_last i e =
         sym (row-at new (head + 1) 0 i i (no_label, []) (omega arith) (omega arith)) ∙
         ap (λ (rs : List (Row Label)). get_or rs i (no_label, [])) rows_are ∙
-        get_or_at (rows_from words 0 head) (label, linksBetween words' (at + header) now.at) [] (no_label, []) i (length-rows words 0 head ∙ sym e)
+        get_or_at (rows_from words 0 head) (label, links_between words' (at + header) now.at) [] (no_label, []) i (length-rows words 0 head ∙ sym e)
 
     -- A new pair hangs below the pair whose row is added.
     inside : (i : ℕ) → i < now.count → Dec (i < count) → (get_or queue' i 0 / 255 < size a) × (get_or queue' i 0 % 255 < size b)
@@ -215,17 +215,17 @@ module _ {joins : ℕ → ℕ → ℕ} {a b : List ℕ} {head count at : ℕ} {m
         let e : i ≡ head = omega arith in
         ap (λ (r : Row Label). r.0) (row_last i e) ∙ is ∙ ap (joined joins a b) (same-pair i head e next)
 
-    rows : (i : ℕ) → i < head + 1 → Dec (i < head) → Matched (common a b (pair_of (get_or queue' i 0))) queue' now.count 64 (linksAt new i)
+    rows : (i : ℕ) → i < head + 1 → Dec (i < head) → Matched (common a b (pair_of (get_or queue' i 0))) queue' now.count 64 (links_at new i)
     rows i h (yes l) =
         subst (λ (ls : List (ℕ × ℕ)). Matched (common a b (pair_of (get_or queue' i 0))) queue' now.count 64 ls)
         (sym (ap (λ (r : Row Label). r.1) (row_kept i l)))
-        (subst (λ (x : ℕ × ℕ). Matched (common a b x) queue' now.count 64 (linksAt words i)) (same-pair i i refl (omega arith))
+        (subst (λ (x : ℕ × ℕ). Matched (common a b x) queue' now.count 64 (links_at words i)) (same-pair i i refl (omega arith))
         (matched-on (s.rows i l) queue' now.count added.grows added.queue-kept))
     rows i h (no n) =
         let e : i ≡ head = omega arith in
         subst (λ (ls : List (ℕ × ℕ)). Matched (common a b (pair_of (get_or queue' i 0))) queue' now.count 64 ls)
         (sym (ap (λ (r : Row Label). r.1) (row_last i e)))
-        (subst (λ (x : ℕ × ℕ). Matched (common a b x) queue' now.count 64 (linksBetween words' (at + header) now.at))
+        (subst (λ (x : ℕ × ℕ). Matched (common a b x) queue' now.count 64 (links_between words' (at + header) now.at))
         (same-pair i head e next) added.row)
 
     pub build-long : length (set words' (head + 2) now.at) ≡ length words

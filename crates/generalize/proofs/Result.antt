@@ -10,7 +10,7 @@ use lib.Dec.{eqb}
 use lib.ListN.{length, get_or, set, length-append, length-map}
 use Rattle.graphs.specs.Graph.{Reached}
 use Rattle.graphs.specs.Rows.{Row}
-use Rattle.graphs.specs.Number.{Canonical, canonical, manyNodes, manyLinks, written}
+use Rattle.graphs.specs.Number.{Canonical, canonical, many_nodes, many_links, written}
 use Rattle.graphs.specs.Large.{Distinct, Ascending, ManyNodes, ManyLinks}
 use Rattle.graphs.specs.OfRows.{same_pair}
 use Rattle.graphs.proofs.Form.Bisimilar.{Alike, absent, present, Bisimilar}
@@ -20,17 +20,17 @@ use Rattle.graphs.proofs.Lists.{tells-eqb, distinct_append}
 use Rattle.graphs.proofs.Walk.{none-some, some-injective}
 use Rattle.lattice.specs.Label.{Label, no_label}
 use Rattle.lattice.specs.Labels.{Known}
-use Rattle.layout.specs.Layout.{Recorded, Sound, header, size, label_at, linksFrom, rowEnd, targetAt, linksAt, rows_from, rows_of, graphIn}
+use Rattle.layout.specs.Layout.{Recorded, Sound, header, size, label_at, links_from, row_end, target_at, links_at, rows_from, rows_of, graph_in}
 use Rattle.layout.specs.Builder.{Built}
 use Rattle.layout.proofs.Spans.{link_at, length-links, links-at, links-member}
 use Rattle.layout.proofs.Rows.{row-at, rows-source}
 use Rattle.layout.proofs.Places.{label-at, link-at, link-place}
 use Rattle.layout.proofs.Builder.{Orderly, Aimed, size-kept, size-rows, size_is, built-shaped, built-sound}
-use Rattle.encode.specs.Encode.{Outcome, yielding, writtenOut}
+use Rattle.encode.specs.Encode.{Outcome, yielding, written_out}
 use Rattle.encode.specs.declared.Written.{Written}
 use Rattle.encode.specs.declared.Written.TheVariants as outcome
 use Rattle.product.specs.Queue.{clear, code_of, common, Marked, Numbered, Full}
-use Rattle.generalize.specs.Product.{product, productOut}
+use Rattle.generalize.specs.Product.{product, product_out}
 use Rattle.generalize.specs.Found.{room, Found}
 use Rattle.generalize.specs.declared.Common.TheVariants as variants
 use Rattle.generalize.proofs.Sides.{pair_of, product-root, product-link, product-label, common-known, tells-pair}
@@ -39,14 +39,14 @@ use Rattle.generalize.proofs.Building.{Building, base, joined-known, pair-number
 -- A graph with too many nodes or links is not written.
 pub too_large : (joins : ℕ → ℕ → ℕ) {a b : List ℕ} → Recorded a → Recorded b → (old : List ℕ) →
     ManyNodes (product joins a b) ⊎ ManyLinks (product joins a b) →
-    productOut joins a b old ≡ yielding outcome.TooLarge old
-unfolding writtenOut
+    product_out joins a b old ≡ yielding outcome.TooLarge old
+unfolding written_out
 too_large joins {a} {b} left right old many = go (canonical same_pair (product joins a b)) refl
   where
     go : (c : Canonical Label) → canonical same_pair (product joins a b) ≡ c →
-        productOut joins a b old ≡ yielding outcome.TooLarge old
-    go manyNodes e = ap (λ (c : Canonical Label). writtenOut c old) e
-    go manyLinks e = ap (λ (c : Canonical Label). writtenOut c old) e
+        product_out joins a b old ≡ yielding outcome.TooLarge old
+    go many_nodes e = ap (λ (c : Canonical Label). written_out c old) e
+    go many_links e = ap (λ (c : Canonical Label). written_out c old) e
     go (written form) e =
         let (few, short) = (canonical-fits same_pair tells-pair (product joins a b)
         (λ v w f r l. (common-known left right v w f (sym (product-link joins a b v f) ∙ l)).0)).1 (form, e) in
@@ -83,23 +83,23 @@ leaving-distinct x (l ∷ ls) up = (
 )
 
 -- the links of the first m rows
-leavingAll : List ℕ → List ℕ → ℕ → List ((ℕ × ℕ) × ℕ)
-leavingAll queue words zero = []
-leavingAll queue words (suc m) = leaving (pair_of (get_or queue m 0)) (linksAt words m) ++ leavingAll queue words m
+leaving_all : List ℕ → List ℕ → ℕ → List ((ℕ × ℕ) × ℕ)
+leaving_all queue words zero = []
+leaving_all queue words (suc m) = leaving (pair_of (get_or queue m 0)) (links_at words m) ++ leaving_all queue words m
 
-all-source : (queue words : List ℕ) (m : ℕ) (l : (ℕ × ℕ) × ℕ) → Memᴰ l (leavingAll queue words m) →
-    (i : ℕ) × (k : ℕ × ℕ) × (i < m) × Memᴰ k (linksAt words i) × (l ≡ (pair_of (get_or queue i 0), k.0))
-unfolding leavingAll leaving
+all-source : (queue words : List ℕ) (m : ℕ) (l : (ℕ × ℕ) × ℕ) → Memᴰ l (leaving_all queue words m) →
+    (i : ℕ) × (k : ℕ × ℕ) × (i < m) × Memᴰ k (links_at words i) × (l ≡ (pair_of (get_or queue i 0), k.0))
+unfolding leaving_all leaving
 all-source queue words zero l i = absurd (mathlib.Core.List.Memᴰ.not-nil i)
 all-source queue words (suc m) l i =
     ⊎_elim
-    (λ (j : Memᴰ l (map (λ k. (pair_of (get_or queue m 0), k.0)) (linksAt words m))).
-    let (k, n, e) = mathlib.Core.List.Memᴰ.of_map {B = (ℕ × ℕ) × ℕ} (λ k. (pair_of (get_or queue m 0), k.0)) (linksAt words m) j in
+    (λ (j : Memᴰ l (map (λ k. (pair_of (get_or queue m 0), k.0)) (links_at words m))).
+    let (k, n, e) = mathlib.Core.List.Memᴰ.of_map {B = (ℕ × ℕ) × ℕ} (λ k. (pair_of (get_or queue m 0), k.0)) (links_at words m) j in
     (m, k, omega arith, n, sym e))
-    (λ (j : Memᴰ l (leavingAll queue words m)).
+    (λ (j : Memᴰ l (leaving_all queue words m)).
     let (v, k, h, n, e) = all-source queue words m l j in
     (v, k, omega arith, n, e))
-    (mathlib.Core.List.Memᴰ.append_cases (map (λ k. (pair_of (get_or queue m 0), k.0)) (linksAt words m)) i)
+    (mathlib.Core.List.Memᴰ.append_cases (map (λ k. (pair_of (get_or queue m 0), k.0)) (links_at words m)) i)
 
 module _ {marks queue : List ℕ} {count : ℕ} (marked : Marked marks queue count) where
   -- pairs at different places are different
@@ -146,8 +146,8 @@ module _ {joins : ℕ → ℕ → ℕ} {a b : List ℕ} {head count at : ℕ} {m
 
   -- More than 2,048 links.
 
-  all-length : (m : ℕ) → m ≤ head → get_or words (m + 1) 0 ≡ base + m * header + length (leavingAll queue words m)
-  unfolding leavingAll leaving
+  all-length : (m : ℕ) → m ≤ head → get_or words (m + 1) 0 ≡ base + m * header + length (leaving_all queue words m)
+  unfolding leaving_all leaving
   all-length zero h = s.first ∙ omega arith
   all-length (suc m) h =
       let one : suc m + 1 ≡ m + 2 = omega arith in
@@ -155,22 +155,22 @@ module _ {joins : ℕ → ℕ → ℕ} {a b : List ℕ} {head count at : ℕ} {m
       omega (
         arith,
         all-length m (omega arith),
-        length-append (map (λ k. (pair_of (get_or queue m 0), k.0)) (linksAt words m)) (leavingAll queue words m),
-        length-map {B = (ℕ × ℕ) × ℕ} (linksAt words m) (λ k. (pair_of (get_or queue m 0), k.0)),
-        length-links words (linksFrom words m) (rowEnd words m) (omega (arith, s.built.ended m h, s.built.high)),
+        length-append (map (λ k. (pair_of (get_or queue m 0), k.0)) (links_at words m)) (leaving_all queue words m),
+        length-map {B = (ℕ × ℕ) × ℕ} (links_at words m) (λ k. (pair_of (get_or queue m 0), k.0)),
+        length-links words (links_from words m) (row_end words m) (omega (arith, s.built.ended m h, s.built.high)),
         s.built.begun m h,
       )
 
-  all-distinct : (m : ℕ) → m ≤ head → Distinct (leavingAll queue words m)
-  unfolding leavingAll leaving
+  all-distinct : (m : ℕ) → m ≤ head → Distinct (leaving_all queue words m)
+  unfolding leaving_all leaving
   all-distinct zero h = tt
   all-distinct (suc m) h =
-      distinct_append (leaving (pair_of (get_or queue m 0)) (linksAt words m)) (leavingAll queue words m)
-      (leaving-distinct (pair_of (get_or queue m 0)) (linksAt words m) (s.rows m h).ascends) (all-distinct m (omega arith)) apart
+      distinct_append (leaving (pair_of (get_or queue m 0)) (links_at words m)) (leaving_all queue words m)
+      (leaving-distinct (pair_of (get_or queue m 0)) (links_at words m) (s.rows m h).ascends) (all-distinct m (omega arith)) apart
     where
-      apart : (l : (ℕ × ℕ) × ℕ) → Memᴰ l (leaving (pair_of (get_or queue m 0)) (linksAt words m)) → Memᴰ l (leavingAll queue words m) → ⊥
+      apart : (l : (ℕ × ℕ) × ℕ) → Memᴰ l (leaving (pair_of (get_or queue m 0)) (links_at words m)) → Memᴰ l (leaving_all queue words m) → ⊥
       apart l i j =
-          let (k, n, e) = mathlib.Core.List.Memᴰ.of_map {B = (ℕ × ℕ) × ℕ} (λ k. (pair_of (get_or queue m 0), k.0)) (linksAt words m) i in
+          let (k, n, e) = mathlib.Core.List.Memᴰ.of_map {B = (ℕ × ℕ) × ℕ} (λ k. (pair_of (get_or queue m 0), k.0)) (links_at words m) i in
           let (v, p, h', n', d) = all-source queue words m l j in
           omega (
             arith,
@@ -180,7 +180,7 @@ module _ {joins : ℕ → ℕ → ℕ} {a b : List ℕ} {head count at : ℕ} {m
 
   pub many-links : base + head * header + 2048 < at → ManyLinks (product joins a b)
   many-links h = (
-    leavingAll queue words head,
+    leaving_all queue words head,
     all-distinct head (omega arith),
     λ l m.
         let (i, k, below, n, e) = all-source queue words head l m in
@@ -213,7 +213,7 @@ module _ {joins : ℕ → ℕ → ℕ} {a b : List ℕ} {head count at : ℕ} {m
     rows_are = ap (rows_from result 0) sized ∙ size-rows s.built count
 
     -- a row of the result is that of a pair
-    row-of : (r : Row Label) → Memᴰ r (rows_of result) → (i : ℕ) × (i < head) × (r ≡ (label_at words i, linksAt words i))
+    row-of : (r : Row Label) → Memᴰ r (rows_of result) → (i : ℕ) × (i < head) × (r ≡ (label_at words i, links_at words i))
     row-of r m =
         let (i, h, e) = rows-source words head 0 r (subst (λ (rs : List (Row Label)). Memᴰ r rs) rows_are m) in
         (i, omega arith, e)
@@ -240,7 +240,7 @@ module _ {joins : ℕ → ℕ → ℕ} {a b : List ℕ} {head count at : ℕ} {m
     pub build-sound : Sound (set words 0 count)
     build-sound = built-sound built sized (built-shaped built sized (omega (arith, s.begun)) (omega arith) orderly) aimed
 
-    row_is : (i : ℕ) → i < head → ◌≡◌ {A = Row Label} (label_at result i, linksAt result i) (label_at words i, linksAt words i)
+    row_is : (i : ℕ) → i < head → ◌≡◌ {A = Row Label} (label_at result i, links_at result i) (label_at words i, links_at words i)
     row_is i h =
         sym (row-at result head 0 i i (no_label, []) (omega arith) h) ∙
         ap (λ (rs : List (Row Label)). get_or rs i (no_label, [])) (size-rows s.built count) ∙
@@ -249,7 +249,7 @@ module _ {joins : ℕ → ℕ → ℕ} {a b : List ℕ} {head count at : ℕ} {m
     numbered-in : (x : ℕ × ℕ) (i : ℕ) → Numbered queue count x i → (i < head) × (i < size result)
     numbered-in x i n = (omega (arith, n.below), omega (arith, n.below, sized))
 
-    alike-labels : (x : ℕ × ℕ) (i : ℕ) → Numbered queue count x i → (product joins a b).label x ≡ (graphIn result).label i
+    alike-labels : (x : ℕ × ℕ) (i : ℕ) → Numbered queue count x i → (product joins a b).label x ≡ (graph_in result).label i
     alike-labels x i n =
         let (low, high) = numbered-in x i n in
         ap (product joins a b).label (sym (pair-numbered x i n)) ∙
@@ -260,29 +260,29 @@ module _ {joins : ℕ → ℕ → ℕ} {a b : List ℕ} {head count at : ℕ} {m
     sound = build-sound
 
     -- A link of the result leads to the number of the pair that the same link of the common part leads to.
-    link-led : (i f m : ℕ) → i < head → i < size result → (graphIn result).link i f ≡ some m →
+    link-led : (i f m : ℕ) → i < head → i < size result → (graph_in result).link i f ≡ some m →
         (x : ℕ × ℕ) × (common a b (pair_of (get_or queue i 0)) f ≡ some x) × Numbered queue count x m
     link-led i f m low high d =
         let (k, from, to, p, q) = link-place sound i f m high d in
         let (x, leads, num) = (s.rows i low).led (link_at result k)
         (subst (λ (ls : List (ℕ × ℕ)). Memᴰ {A = ℕ × ℕ} (link_at result k) ls) (ap (λ (r : Row Label). r.1) (row_is i low))
-        (links-at result (rowEnd result i) (sound.shaped.node i high).ended (rowEnd result i - linksFrom result i) (linksFrom result i)
+        (links-at result (row_end result i) (sound.shaped.node i high).ended (row_end result i - links_from result i) (links_from result i)
         (omega (arith, (sound.shaped.node i high).begun)) k from to)) in
         (x, ap (common a b (pair_of (get_or queue i 0))) (sym p) ∙ leads, subst (λ (j : ℕ). Numbered queue count x j) q num)
 
     -- The result has a link for each link of the common part.
     link-there : (i f : ℕ) (x : ℕ × ℕ) → i < head → i < size result → common a b (pair_of (get_or queue i 0)) f ≡ some x →
-        (m : ℕ) × ((graphIn result).link i f ≡ some m)
+        (m : ℕ) × ((graph_in result).link i f ≡ some m)
     link-there i f x low high e =
         let (j, mem) = (s.rows i low).present f (common-known s.left s.right (pair_of (get_or queue i 0)) x f e).0 x e in
-        let (k, from, to, p, q) = links-member result (rowEnd result i) (sound.shaped.node i high).ended (rowEnd result i - linksFrom result i)
-        (linksFrom result i) (omega (arith, (sound.shaped.node i high).begun)) (f, j)
+        let (k, from, to, p, q) = links-member result (row_end result i) (sound.shaped.node i high).ended (row_end result i - links_from result i)
+        (links_from result i) (omega (arith, (sound.shaped.node i high).begun)) (f, j)
         (subst (λ (ls : List (ℕ × ℕ)). Memᴰ {A = ℕ × ℕ} (f, j) ls) (sym (ap (λ (r : Row Label). r.1) (row_is i low))) mem) in
-        (targetAt result k, ap ((graphIn result).link i) p ∙ link-at sound i k high from to)
+        (target_at result k, ap ((graph_in result).link i) p ∙ link-at sound i k high from to)
 
     alike-links : (x : ℕ × ℕ) (i f : ℕ) → Numbered queue count x i →
-        Alike (Numbered queue count) ((product joins a b).link x f) ((graphIn result).link i f)
-    alike-links x i f n = go ((product joins a b).link x f) ((graphIn result).link i f) refl refl
+        Alike (Numbered queue count) ((product joins a b).link x f) ((graph_in result).link i f)
+    alike-links x i f n = go ((product joins a b).link x f) ((graph_in result).link i f) refl refl
       where
         low : i < head
         low = (numbered-in x i n).0
@@ -293,7 +293,7 @@ module _ {joins : ℕ → ℕ → ℕ} {a b : List ℕ} {head count at : ℕ} {m
         leads : (product joins a b).link x f ≡ common a b (pair_of (get_or queue i 0)) f
         leads = product-link joins a b x f ∙ ap (λ (y : ℕ × ℕ). common a b y f) (sym (pair-numbered x i n))
 
-        go : (o : Option (ℕ × ℕ)) (r : Option ℕ) → (product joins a b).link x f ≡ o → (graphIn result).link i f ≡ r →
+        go : (o : Option (ℕ × ℕ)) (r : Option ℕ) → (product joins a b).link x f ≡ o → (graph_in result).link i f ≡ r →
             Alike (Numbered queue count) o r
         go none none e d = absent
         go none (some m) e d =
@@ -306,7 +306,7 @@ module _ {joins : ℕ → ℕ → ℕ} {a b : List ℕ} {head count at : ℕ} {m
             let (z, q, num) = link-led i f m low high d in
             present (subst (λ (t : ℕ × ℕ). Numbered queue count t m) (some-injective (sym q ∙ sym leads ∙ e)) num)
 
-    alike : Bisimilar (Numbered queue count) (product joins a b) (graphIn result)
+    alike : Bisimilar (Numbered queue count) (product joins a b) (graph_in result)
     alike =
         record {
           root = subst (λ (x : ℕ × ℕ). Numbered queue count x 0) (sym (product-root joins a b))
@@ -318,9 +318,9 @@ module _ {joins : ℕ → ℕ → ℕ} {a b : List ℕ} {head count at : ℕ} {m
         }
 
     -- The rows have the written form of the common part.
-    pub build-canonical : canonical same_pair (product joins a b) ≡ canonical eqb (graphIn (set words 0 count))
+    pub build-canonical : canonical same_pair (product joins a b) ≡ canonical eqb (graph_in (set words 0 count))
     build-canonical =
-        bisimilar-canonical same_pair eqb tells-pair tells-eqb (Numbered queue count) (product joins a b) (graphIn result) alike
+        bisimilar-canonical same_pair eqb tells-pair tells-eqb (Numbered queue count) (product joins a b) (graph_in result) alike
 
 -- What building in lent words found.
 

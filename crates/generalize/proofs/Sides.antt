@@ -7,12 +7,12 @@ use Prim.Native.Nat.{ℕ, ◌/◌, ◌%◌, ◌<◌}
 use borrow.Author.Tests.{eq-eqb, eqb-true}
 use lib.Dec.{eqb}
 use Rattle.graphs.specs.Graph.{TellsApart}
-use Rattle.graphs.specs.Generalize.{generalizationBy}
+use Rattle.graphs.specs.Generalize.{generalization_by}
 use Rattle.graphs.specs.OfRows.{same_pair}
 use Rattle.graphs.proofs.Product.{both_some}
 use Rattle.graphs.proofs.Search.{both_true}
-use Rattle.lattice.specs.Labels.{joinRanged}
-use Rattle.layout.specs.Layout.{Recorded, size, label_at, graphIn}
+use Rattle.lattice.specs.Labels.{join_ranged}
+use Rattle.layout.specs.Layout.{Recorded, size, label_at, graph_in}
 use Rattle.layout.proofs.Places.{label-at, link-inside}
 use Rattle.product.specs.Queue.{common}
 use Rattle.generalize.specs.Product.{product}
@@ -23,21 +23,21 @@ pair_of p = (p / 255, p % 255)
 
 module _ (joins : ℕ → ℕ → ℕ) (a b : List ℕ) where
   pub product-root : (product joins a b).root ≡ (0, 0)
-  unfolding generalizationBy
+  unfolding generalization_by
   product-root = refl
 
   pub product-link : (x : ℕ × ℕ) (f : ℕ) → (product joins a b).link x f ≡ common a b x f
-  unfolding generalizationBy
+  unfolding generalization_by
   product-link x f = refl
 
-  pub product-label : (u v : ℕ) → u < size a → v < size b → (product joins a b).label (u, v) ≡ joinRanged joins (label_at a u) (label_at b v)
-  unfolding generalizationBy
-  product-label u v i j = ap₂ (joinRanged joins) (label-at a u i) (label-at b v j)
+  pub product-label : (u v : ℕ) → u < size a → v < size b → (product joins a b).label (u, v) ≡ join_ranged joins (label_at a u) (label_at b v)
+  unfolding generalization_by
+  product-label u v i j = ap₂ (join_ranged joins) (label-at a u i) (label-at b v j)
 
 pub common-known : {a b : List ℕ} → Recorded a → Recorded b → (x y : ℕ × ℕ) (f : ℕ) → common a b x f ≡ some y →
     (f < 64) × (y.0 < size a) × (y.1 < size b)
 common-known {a} {b} left right x y f e =
-    let (p, q) = both_some ((graphIn a).link x.0 f) ((graphIn b).link x.1 f) e in
+    let (p, q) = both_some ((graph_in a).link x.0 f) ((graph_in b).link x.1 f) e in
     let (s, t) = link-inside left.sound x.0 f y.0 p in
     (s, t, (link-inside right.sound x.1 f y.1 q).1)
 

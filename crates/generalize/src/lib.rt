@@ -3,13 +3,13 @@
 // the joins that `bounds` holds; `encode` writes the result.
 
 ghost use Rattle.std.specs.Prelude.{◌≡◌, true, ◌≤◌, ◌<◌, length};
-ghost use Rattle.lattice.specs.Labels.{joinRanged};
-ghost use Rattle.bounds.specs.Sets.{Seekable, joinIn};
+ghost use Rattle.lattice.specs.Labels.{join_ranged};
+ghost use Rattle.bounds.specs.Sets.{Seekable, join_in};
 ghost use Rattle.layout.specs.Builder.{stated};
 ghost use Rattle.layout.specs.Layout.{Recorded};
 ghost use Rattle.encode.specs.Encode.{yielding};
 ghost use Rattle.generalize.specs.Pairs.{Joinable};
-ghost use Rattle.generalize.specs.Product.{productOut};
+ghost use Rattle.generalize.specs.Product.{product_out};
 ghost use Rattle.generalize.specs.Found.{Found};
 
 use encode::Written;
@@ -38,7 +38,7 @@ fn join<'a>(
 ) -> Label
     requires kind_lt_n { (a.kind < n) × (b.kind < n) × (n ≤ 64) }
     requires seekable { Seekable true n sets.now cells.now }
-    ensures { stated result ≡ joinRanged (joinIn n sets.now cells.now) (stated a) (stated b) }
+    ensures { stated result ≡ join_ranged (join_in n sets.now cells.now) (stated a) (stated b) }
 {
     Label {
         kind: bounds::sets::join(n, sets, cells, a.kind as usize, b.kind as usize),
@@ -66,10 +66,10 @@ fn generalize_in<'a>(
 ) -> Common
     requires recorded { Recorded a.now }
     requires recorded_2 { Recorded b.now }
-    requires joinable { Joinable n (joinIn n sets.now cells.now) a.now b.now }
+    requires joinable { Joinable n (join_in n sets.now cells.now) a.now b.now }
     requires seekable { Seekable true n sets.now cells.now }
     requires in_bounds { (512 ≤ length words.old) × (length words.old ≤ 65535) }
-    ensures { Found result (productOut (joinIn n sets.now cells.now) a.now b.now out.old)
+    ensures { Found result (product_out (join_in n sets.now cells.now) a.now b.now out.old)
         (length words.old) out.old out.new }
 {
     let mut marks = [CLEAR; 65025];
@@ -125,9 +125,9 @@ fn generalize_large<'a>(
 ) -> Written
     requires recorded { Recorded a.now }
     requires recorded_2 { Recorded b.now }
-    requires joinable { Joinable n (joinIn n sets.now cells.now) a.now b.now }
+    requires joinable { Joinable n (join_in n sets.now cells.now) a.now b.now }
     requires seekable { Seekable true n sets.now cells.now }
-    ensures { yielding result out.new ≡ productOut (joinIn n sets.now cells.now) a.now b.now out.old }
+    ensures { yielding result out.new ≡ product_out (join_in n sets.now cells.now) a.now b.now out.old }
 {
     let mut words = [0u16; ROOM];
     match generalize_in(n, sets, cells, a, b, &mut words, out) {
@@ -147,9 +147,9 @@ pub fn generalize<'a>(
 ) -> Written
     requires recorded { Recorded a.now }
     requires recorded_2 { Recorded b.now }
-    requires joinable { Joinable n (joinIn n sets.now cells.now) a.now b.now }
+    requires joinable { Joinable n (join_in n sets.now cells.now) a.now b.now }
     requires seekable { Seekable true n sets.now cells.now }
-    ensures { yielding result out.new ≡ productOut (joinIn n sets.now cells.now) a.now b.now out.old }
+    ensures { yielding result out.new ≡ product_out (join_in n sets.now cells.now) a.now b.now out.old }
 {
     if SMALL_NODES < a[0] as usize + b[0] as usize {
         return generalize_large(n, sets, cells, a, b, out);

@@ -99,26 +99,26 @@ module _ {𝓛 : Labels} {E : Type 0} (e : Graph 𝓛.L E) (sound : AnySize 𝓛
     node-reached i = reached-at sound.nodes (λ v m. (sound.listed v).1 m) i
 
     -- the number of the node that a feature leads to
-    numberOn : (v : E) → Reached e v → (f : ℕ) (o : Option E) → e.link v f ≡ o → Option ℕ
-    numberOn v r f none q = none
-    numberOn v r f (some w) q = some (number w (reached-link e f r q))
+    number_on : (v : E) → Reached e v → (f : ℕ) (o : Option E) → e.link v f ≡ o → Option ℕ
+    number_on v r f none q = none
+    number_on v r f (some w) q = some (number w (reached-link e f r q))
 
     on-numbers : Graph 𝓛.L ℕ
     on-numbers =
         record {
           root = number e.root (reached-root e);
           label = λ i. e.label (node i);
-          link = λ i f. numberOn (node i) (node-reached i) f (e.link (node i) f) refl;
+          link = λ i f. number_on (node i) (node-reached i) f (e.link (node i) f) refl;
         }
 
-    number-link : (v : E) (r : Reached e v) (f : ℕ) (o : Option E) (q : e.link v f ≡ o) → o ≡ map node (numberOn v r f o q)
-    unfolding numberOn
+    number-link : (v : E) (r : Reached e v) (f : ℕ) (o : Option E) (q : e.link v f ≡ o) → o ≡ map node (number_on v r f o q)
+    unfolding number_on
     number-link v r f none q = refl
     number-link v r f (some w) q = ap some (sym (node-number w (reached-link e f r q)))
 
-    number_source : (v : E) (r : Reached e v) (f : ℕ) (o : Option E) (q : e.link v f ≡ o) {i : ℕ} → numberOn v r f o q ≡ some i →
+    number_source : (v : E) (r : Reached e v) (f : ℕ) (o : Option E) (q : e.link v f ≡ o) {i : ℕ} → number_on v r f o q ≡ some i →
         (w : E) × (p : Reached e w) × (i ≡ number w p)
-    unfolding numberOn
+    unfolding number_on
     number_source v r f none q h = none-some h
     number_source v r f (some w) q h = (w, reached-link e f r q, sym (some-injective h))
 

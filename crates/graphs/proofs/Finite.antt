@@ -22,7 +22,7 @@ use Rattle.graphs.specs.Order.{within}
 use Rattle.graphs.specs.Graph.{Graph, Below, SameMeaning, AnySize, walk, follow, Reached}
 use Rattle.graphs.specs.Rows.{features}
 use Rattle.graphs.proofs.Walk.{some-injective, none-some, follow-none, follow-start, follow-last, walk-append, walk-snoc}
-use Rattle.graphs.proofs.Lists.{mem-features, flatMap-member, flatMap-source, remove}
+use Rattle.graphs.proofs.Lists.{mem-features, flat_map-member, flat_map-source, remove}
 use Rattle.graphs.proofs.Below.{same-below}
 
 -- Short paths.
@@ -68,7 +68,7 @@ module _ {A : Type 0} (link : A → ℕ → Option A) where
           (x ≡ v) ⊎ Memᴰ x (flat_map (λ f. within link k (link v f)) features) → (p : List ℕ) × (follow link (some v) p ≡ some x)
       go rest (inl e) = ([], ap some (sym e))
       go rest (inr n) =
-          let (f, _, i) = flatMap-source (λ f. within link k (link v f)) features n in
+          let (f, _, i) = flat_map-source (λ f. within link k (link v f)) features n in
           let (p, e) = rest f i in
           (f ∷ p, e)
 
@@ -82,7 +82,7 @@ module _ {A : Type 0} (link : A → ℕ → Option A) where
   reached-within (suc k) (some v) (f ∷ p) x small short e =
       let (w, to) = follow-start link (link v f) p x e in
       Memᴰ.tail
-      (flatMap-member (λ f. within link k (link v f)) (mem-features f (small [] v w f refl to))
+      (flat_map-member (λ f. within link k (link v f)) (mem-features f (small [] v w f refl to))
       (reached-within k (link v f) p x (λ q. small (f ∷ q)) (omega arith) e))
 
 -- Where all walks are short and all features small, a list holds just the nodes that are reached.

@@ -28,7 +28,7 @@ use lib.Dec.{eqb}
 use lib.ListN.{length, get_or}
 use Rattle.graphs.specs.Graph.{TellsApart}
 use Rattle.graphs.specs.Rows.{from, features}
-use Rattle.graphs.specs.Number.{member, index_of, countSome}
+use Rattle.graphs.specs.Number.{member, index_of, count_some}
 use Rattle.graphs.specs.Large.{Distinct}
 
 -- Numbers in a row.
@@ -53,11 +53,11 @@ length_from f zero = refl
 length_from f (suc k) = ap suc (length_from (suc f) k)
 
 -- what a function makes of the numbers in a row, at a place
-pub getD-from : {X : Type 0} (g : ℕ → X) (d : X) (n k i : ℕ) → i < n → get_or (map g (from k n)) i d ≡ g (k + i)
+pub get_or-from : {X : Type 0} (g : ℕ → X) (d : X) (n k i : ℕ) → i < n → get_or (map g (from k n)) i d ≡ g (k + i)
 unfolding from
-getD-from g d zero k i h = absurd (omega arith)
-getD-from g d (suc n) k zero h = ap g (sym (add-zero k))
-getD-from g d (suc n) k (suc i) h = getD-from g d n (suc k) i (omega arith) ∙ ap g (suc-add k i ∙ sym (add-suc k i))
+get_or-from g d zero k i h = absurd (omega arith)
+get_or-from g d (suc n) k zero h = ap g (sym (add-zero k))
+get_or-from g d (suc n) k (suc i) h = get_or-from g d n (suc k) i (omega arith) ∙ ap g (suc-add k i ∙ sym (add-suc k i))
 
 -- functions that agree on a list map it alike
 pub map-listed : {X Y : Type 0} {f g : X → Y} (xs : List X) → ((x : X) → Memᴰ x xs → f x ≡ g x) → map f xs ≡ map g xs
@@ -66,13 +66,13 @@ map-listed {Y = Y} (x ∷ xs) e =
     ap₂ (λ (y : Y) (ys : List Y). y ∷ ys) (e x (Memᴰ.head refl)) (map-listed xs (λ z m. e z (Memᴰ.tail m)))
 
 -- an entry of a list is a member
-pub getD-member : {X : Type 0} (xs : List X) (i : ℕ) (d : X) → i < length xs → Memᴰ (get_or xs i d) xs
-getD-member [] i d h = absurd (omega arith)
-getD-member (x ∷ xs) zero d h = Memᴰ.head refl
-getD-member (x ∷ xs) (suc i) d h = Memᴰ.tail (getD-member xs i d (omega arith))
+pub get_or-member : {X : Type 0} (xs : List X) (i : ℕ) (d : X) → i < length xs → Memᴰ (get_or xs i d) xs
+get_or-member [] i d h = absurd (omega arith)
+get_or-member (x ∷ xs) zero d h = Memᴰ.head refl
+get_or-member (x ∷ xs) (suc i) d h = Memᴰ.tail (get_or-member xs i d (omega arith))
 
 -- an option counts as 0 or 1
-pub count_small : {X : Type 0} (o : Option X) → countSome o ≤ 1
+pub count_small : {X : Type 0} (o : Option X) → count_some o ≤ 1
 count_small none = omega arith
 count_small (some x) = omega arith
 
@@ -86,15 +86,15 @@ features-small f m = omega (arith, from-range 0 64 f m)
 -- Lists made of lists.
 
 module _ {X Y : Type 0} (make : X → List Y) where
-  pub flatMap-member : {x : X} {y : Y} {l : List X} → Memᴰ x l → Memᴰ y (make x) → Memᴰ y (flat_map make l)
+  pub flat_map-member : {x : X} {y : Y} {l : List X} → Memᴰ x l → Memᴰ y (make x) → Memᴰ y (flat_map make l)
   unfolding flat_map
-  flatMap-member (Memᴰ.head {xs = xs} e) n = Memᴰ.append_left (flat_map make xs) (rw e at n)
-  flatMap-member (Memᴰ.tail {x = z} m) n = Memᴰ.append_right (make z) (flatMap-member m n)
+  flat_map-member (Memᴰ.head {xs = xs} e) n = Memᴰ.append_left (flat_map make xs) (rw e at n)
+  flat_map-member (Memᴰ.tail {x = z} m) n = Memᴰ.append_right (make z) (flat_map-member m n)
 
-  pub flatMap-source : {y : Y} (l : List X) → Memᴰ y (flat_map make l) → (x : X) × Memᴰ x l × Memᴰ y (make x)
+  pub flat_map-source : {y : Y} (l : List X) → Memᴰ y (flat_map make l) → (x : X) × Memᴰ x l × Memᴰ y (make x)
   unfolding flat_map
-  flatMap-source [] m = absurd (Memᴰ.not-nil m)
-  flatMap-source {y} (x ∷ l) m = go (flatMap-source l) (Memᴰ.append_cases (make x) m)
+  flat_map-source [] m = absurd (Memᴰ.not-nil m)
+  flat_map-source {y} (x ∷ l) m = go (flat_map-source l) (Memᴰ.append_cases (make x) m)
     where
       go : (Memᴰ y (flat_map make l) → (z : X) × Memᴰ z l × Memᴰ y (make z)) →
           Memᴰ y (make x) ⊎ Memᴰ y (flat_map make l) → (z : X) × Memᴰ z (x ∷ l) × Memᴰ y (make z)
@@ -154,13 +154,13 @@ unfolding from
 distinct_from f zero = tt
 distinct_from f (suc k) = (λ m. omega (arith, from-range (suc f) k f m), distinct_from (suc f) k)
 
-pub distinct-flatMap : {X Y : Type 0} (make : X → List Y) (l : List X) → Distinct l → ((x : X) → Distinct (make x)) →
+pub distinct-flat_map : {X Y : Type 0} (make : X → List Y) (l : List X) → Distinct l → ((x : X) → Distinct (make x)) →
     ((x z : X) (y : Y) → Memᴰ y (make x) → Memᴰ y (make z) → x ≡ z) → Distinct (flat_map make l)
 unfolding flat_map
-distinct-flatMap make [] d each apart = tt
-distinct-flatMap make (x ∷ l) d each apart =
-    distinct_append (make x) (flat_map make l) (each x) (distinct-flatMap make l d.1 each apart)
-    (λ y m n. let (z, k, i) = flatMap-source make l n in d.0 (Memᴰ.cast (apart x z y m i) k))
+distinct-flat_map make [] d each apart = tt
+distinct-flat_map make (x ∷ l) d each apart =
+    distinct_append (make x) (flat_map make l) (each x) (distinct-flat_map make l d.1 each apart)
+    (λ y m n. let (z, k, i) = flat_map-source make l n in d.0 (Memᴰ.cast (apart x z y m i) k))
 
 -- Membership as a test, and the place of an element.
 
@@ -193,10 +193,10 @@ module _ {A : Type 0} (same : A → A → Bool) (tells : TellsApart same) where
       let z : ◌≡◌ {A = ℕ} 0 1 = cc in
       omega arith
 
-  pub getD-index : {C : Type 0} (c : A → C) (d : C) (v : A) (vs : List A) → Memᴰ v vs →
+  pub get_or-index : {C : Type 0} (c : A → C) (d : C) (v : A) (vs : List A) → Memᴰ v vs →
       get_or (map c vs) (index_of same v vs) d ≡ c v
   unfolding index_of
-  getD-index c d v (w ∷ ws) m = go (same v w) refl m (getD-index c d v ws)
+  get_or-index c d v (w ∷ ws) m = go (same v w) refl m (get_or-index c d v ws)
     where
       go : (t : Bool) → same v w ≡ t → Memᴰ v (w ∷ ws) →
           (Memᴰ v ws → get_or (map c ws) (index_of same v ws) d ≡ c v) →
@@ -207,11 +207,11 @@ module _ {A : Type 0} (same : A → A → Bool) (tells : TellsApart same) where
           let z : ◌≡◌ {A = ℕ} 0 1 = cc in
           absurd (omega arith)
       go false e (Memᴰ.tail n) later = later n
-  getD-index c d v [] m = absurd (Memᴰ.not-nil m)
+  get_or-index c d v [] m = absurd (Memᴰ.not-nil m)
 
   pub index-injective : (v w : A) (vs : List A) → Memᴰ v vs → Memᴰ w vs → index_of same v vs ≡ index_of same w vs → v ≡ w
   index-injective v w vs m n e =
-      sym (getD-index (λ x. x) v v vs m) ∙ ap (λ (i : ℕ). get_or (map (λ x. x) vs) i v) e ∙ getD-index (λ x. x) v w vs n
+      sym (get_or-index (λ x. x) v v vs m) ∙ ap (λ (i : ℕ). get_or (map (λ x. x) vs) i v) e ∙ get_or-index (λ x. x) v w vs n
 
   pub index-first : (v : A) (vs : List A) → index_of same v (v ∷ vs) ≡ 0
   unfolding index_of

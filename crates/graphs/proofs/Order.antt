@@ -14,25 +14,25 @@ use Rattle.graphs.specs.Label.{Labels}
 use Rattle.graphs.specs.Graph.{Graph, TellsApart, follow, walk, Reached, Below}
 use Rattle.graphs.specs.Relations.{LiesOver}
 use Rattle.graphs.specs.Rows.{features}
-use Rattle.graphs.specs.Generalize.{both, generalizationBy, generalization}
-use Rattle.graphs.specs.Order.{all_of, meetings, there, fitsAt, sharesAt, subsumes}
+use Rattle.graphs.specs.Generalize.{both, generalization_by, generalization}
+use Rattle.graphs.specs.Order.{all_of, meetings, there, fits_at, shares_at, subsumes}
 use Rattle.graphs.proofs.Walk.{none-some, some-unique, snoc-induction, follow-nil, follow-last, walk-snoc}
 use Rattle.graphs.proofs.Lists.{mem-features}
 use Rattle.graphs.proofs.Finite.{within-reached, reached-within}
 use Rattle.graphs.proofs.Product.{both_some, product-walk}
 use Rattle.graphs.proofs.Search.{both_true, true-both}
 
-pub allOf-true : {X : Type 0} (xs : List X) (test : X → Bool) → all_of xs test ≡ true → (x : X) → Memᴰ x xs → test x ≡ true
+pub all_of-true : {X : Type 0} (xs : List X) (test : X → Bool) → all_of xs test ≡ true → (x : X) → Memᴰ x xs → test x ≡ true
 unfolding all_of
-allOf-true [] test e x m = absurd (Memᴰ.not-nil m)
-allOf-true (y ∷ ys) test e x (Memᴰ.head q) = ap test q ∙ (both_true (test y) (all_of ys test) e).0
-allOf-true (y ∷ ys) test e x (Memᴰ.tail m) = allOf-true ys test (both_true (test y) (all_of ys test) e).1 x m
+all_of-true [] test e x m = absurd (Memᴰ.not-nil m)
+all_of-true (y ∷ ys) test e x (Memᴰ.head q) = ap test q ∙ (both_true (test y) (all_of ys test) e).0
+all_of-true (y ∷ ys) test e x (Memᴰ.tail m) = all_of-true ys test (both_true (test y) (all_of ys test) e).1 x m
 
-pub true-allOf : {X : Type 0} (xs : List X) (test : X → Bool) → ((x : X) → Memᴰ x xs → test x ≡ true) → all_of xs test ≡ true
+pub true-all_of : {X : Type 0} (xs : List X) (test : X → Bool) → ((x : X) → Memᴰ x xs → test x ≡ true) → all_of xs test ≡ true
 unfolding all_of
-true-allOf [] test h = refl
-true-allOf (y ∷ ys) test h =
-    true-both (test y) (all_of ys test) (h y (Memᴰ.head refl)) (true-allOf ys test (λ x m. h x (Memᴰ.tail m)))
+true-all_of [] test h = refl
+true-all_of (y ∷ ys) test h =
+    true-both (test y) (all_of ys test) (h y (Memᴰ.head refl)) (true-all_of ys test (λ x m. h x (Memᴰ.tail m)))
 
 there-some : {X Y : Type 0} (o : Option X) (i : Option Y) {x : X} → there o i ≡ true → o ≡ some x → (y : Y) × (i ≡ some y)
 there-some none i e q = none-some q
@@ -44,7 +44,7 @@ some-there none i h = refl
 some-there (some x) none h = none-some (h x refl).1
 some-there (some x) (some y) h = refl
 
-module _ (𝓛 : Labels) {A B : Type 0} (sameA : A → A → Bool) (sameB : B → B → Bool) (tellsA : TellsApart sameA) (tellsB : TellsApart sameB)
+module _ (𝓛 : Labels) {A B : Type 0} (sameA : A → A → Bool) (sameB : B → B → Bool) (tells_a : TellsApart sameA) (tells_b : TellsApart sameB)
     (s : Graph 𝓛.L A) (g : Graph 𝓛.L B) (narrow : (v w : B) (f : ℕ) → Reached g v → g.link v f ≡ some w → f < 64) (k : ℕ)
     (short : (p : List ℕ) (v : B) → walk g p ≡ some v → length p < k) where
   -- one path leads to both nodes of the pair
@@ -52,14 +52,14 @@ module _ (𝓛 : Labels) {A B : Type 0} (sameA : A → A → Bool) (sameB : B �
   Together x = LiesOver g s x.0 x.1
 
   pub listed-together : (x : A × B) → Memᴰ x (meetings s g k) → Together x
-  unfolding generalizationBy
+  unfolding generalization_by
   listed-together x m =
       let (p, e) = within-reached (generalization 𝓛 s g).link k (some (s.root, g.root)) x m in
       let (a, b) = both_some (walk s p) (walk g p) (sym (product-walk 𝓛 s g p) ∙ e) in
       (p, a, b)
 
   pub together-listed : (x : A × B) → Together x → Memᴰ x (meetings s g k)
-  unfolding generalizationBy
+  unfolding generalization_by
   together-listed x (p, a, b) =
       reached-within (generalization 𝓛 s g).link k (some (s.root, g.root)) p x small (short p x.1 b) (product-walk 𝓛 s g p ∙ joined)
     where
@@ -75,35 +75,35 @@ module _ (𝓛 : Labels) {A B : Type 0} (sameA : A → A → Bool) (sameB : B �
   -- From the tests to the order.
 
   module _ (e : subsumes 𝓛 sameA sameB s g k ≡ true) where
-    fits : (x : A × B) → Together x → fitsAt 𝓛 sameA sameB s g x ≡ true
+    fits : (x : A × B) → Together x → fits_at 𝓛 sameA sameB s g x ≡ true
     unfolding subsumes
     fits x t =
         let xs = meetings s g k in
-        allOf-true xs (fitsAt 𝓛 sameA sameB s g)
-        (both_true (all_of xs (fitsAt 𝓛 sameA sameB s g)) (all_of xs λ x. all_of xs (sharesAt 𝓛 sameA sameB s g x)) e).0 x (together-listed x t)
+        all_of-true xs (fits_at 𝓛 sameA sameB s g)
+        (both_true (all_of xs (fits_at 𝓛 sameA sameB s g)) (all_of xs λ x. all_of xs (shares_at 𝓛 sameA sameB s g x)) e).0 x (together-listed x t)
 
     shares : (x y : A × B) → Together x → Together y → x.1 ≡ y.1 → x.0 ≡ y.0
     unfolding subsumes
     shares x y t u q =
         let xs = meetings s g k in
-        let all = (both_true (all_of xs (fitsAt 𝓛 sameA sameB s g)) (all_of xs λ x. all_of xs (sharesAt 𝓛 sameA sameB s g x)) e).1 in
-        let one = allOf-true xs (λ x. all_of xs (sharesAt 𝓛 sameA sameB s g x)) all x (together-listed x t) in
-        either (sameB x.1 y.1) ((tellsB x.1 y.1).1 q) (allOf-true xs (sharesAt 𝓛 sameA sameB s g x) one y (together-listed y u))
+        let all = (both_true (all_of xs (fits_at 𝓛 sameA sameB s g)) (all_of xs λ x. all_of xs (shares_at 𝓛 sameA sameB s g x)) e).1 in
+        let one = all_of-true xs (λ x. all_of xs (shares_at 𝓛 sameA sameB s g x)) all x (together-listed x t) in
+        either (sameB x.1 y.1) ((tells_b x.1 y.1).1 q) (all_of-true xs (shares_at 𝓛 sameA sameB s g x) one y (together-listed y u))
       where
         either : (b : Bool) → b ≡ true → (not b || sameA x.0 y.0) ≡ true → x.0 ≡ y.0
-        either true h o = (tellsA x.0 y.0).0 o
+        either true h o = (tells_a x.0 y.0).0 o
         either false h o = let z : ◌≡◌ {A = ℕ} 0 1 = cc in absurd (omega arith)
 
     label-fits : (x : A × B) → Together x → 𝓛.le (s.label x.0) (g.label x.1) ≡ true
-    unfolding fitsAt
+    unfolding fits_at
     label-fits x t =
         (both_true (𝓛.le (s.label x.0) (g.label x.1)) (all_of features λ f. there (g.link x.1 f) (s.link x.0 f)) (fits x t)).0
 
     link_fits : (x : A × B) → Together x → (f : ℕ) (w : B) → g.link x.1 f ≡ some w → (v : A) × (s.link x.0 f ≡ some v)
-    unfolding fitsAt
+    unfolding fits_at
     link_fits x t f w l =
         there-some (g.link x.1 f) (s.link x.0 f)
-        (allOf-true features (λ f. there (g.link x.1 f) (s.link x.0 f))
+        (all_of-true features (λ f. there (g.link x.1 f) (s.link x.0 f))
         (both_true (𝓛.le (s.label x.0) (g.label x.1)) (all_of features λ f. there (g.link x.1 f) (s.link x.0 f)) (fits x t)).1
         f (mem-features f (narrow x.1 w f (t.0, t.2) l))) l
 
@@ -131,33 +131,33 @@ module _ (𝓛 : Labels) {A B : Type 0} (sameA : A → A → Bool) (sameB : B �
   -- From the order to the tests.
 
   module _ (b : Below 𝓛 s g) where
-    below-fits : (x : A × B) → Together x → fitsAt 𝓛 sameA sameB s g x ≡ true
-    unfolding fitsAt
+    below-fits : (x : A × B) → Together x → fits_at 𝓛 sameA sameB s g x ≡ true
+    unfolding fits_at
     below-fits x (p, hs, hg) =
         true-both (𝓛.le (s.label x.0) (g.label x.1)) (all_of features λ f. there (g.link x.1 f) (s.link x.0 f))
         (let (v, h, l) = b.paths p x.1 hg in
         ap (λ (u : A). 𝓛.le (s.label u) (g.label x.1)) (some-unique hs h) ∙ l)
-        (true-allOf features (λ f. there (g.link x.1 f) (s.link x.0 f))
+        (true-all_of features (λ f. there (g.link x.1 f) (s.link x.0 f))
         (λ f _. some-there (g.link x.1 f) (s.link x.0 f)
         (λ w l. let (v, h, _) = b.paths (p ++ (f ∷ [])) w (walk-snoc g p f hg ∙ l) in (v, sym (walk-snoc s p f hs) ∙ h))))
 
-    below-shares : (x y : A × B) → Together x → Together y → sharesAt 𝓛 sameA sameB s g x y ≡ true
+    below-shares : (x y : A × B) → Together x → Together y → shares_at 𝓛 sameA sameB s g x y ≡ true
     below-shares x y (p, hs, hg) (q, is, ig) = go (sameB x.1 y.1) refl
       where
         go : (t : Bool) → sameB x.1 y.1 ≡ t → (not t || sameA x.0 y.0) ≡ true
         go false e = refl
         go true e =
-            let (v, hp, hq) = b.corefers p q (x.1, hg, ig ∙ ap some (sym ((tellsB x.1 y.1).0 e))) in
-            (tellsA x.0 y.0).1 (some-unique hs hp ∙ some-unique hq is)
+            let (v, hp, hq) = b.corefers p q (x.1, hg, ig ∙ ap some (sym ((tells_b x.1 y.1).0 e))) in
+            (tells_a x.0 y.0).1 (some-unique hs hp ∙ some-unique hq is)
 
     below-subsumes : subsumes 𝓛 sameA sameB s g k ≡ true
     unfolding subsumes
     below-subsumes =
         let xs = meetings s g k in
-        true-both (all_of xs (fitsAt 𝓛 sameA sameB s g)) (all_of xs λ x. all_of xs (sharesAt 𝓛 sameA sameB s g x))
-        (true-allOf xs (fitsAt 𝓛 sameA sameB s g) (λ x m. below-fits x (listed-together x m)))
-        (true-allOf xs (λ x. all_of xs (sharesAt 𝓛 sameA sameB s g x))
-        (λ x m. true-allOf xs (sharesAt 𝓛 sameA sameB s g x) (λ y n. below-shares x y (listed-together x m) (listed-together y n))))
+        true-both (all_of xs (fits_at 𝓛 sameA sameB s g)) (all_of xs λ x. all_of xs (shares_at 𝓛 sameA sameB s g x))
+        (true-all_of xs (fits_at 𝓛 sameA sameB s g) (λ x m. below-fits x (listed-together x m)))
+        (true-all_of xs (λ x. all_of xs (shares_at 𝓛 sameA sameB s g x))
+        (λ x m. true-all_of xs (shares_at 𝓛 sameA sameB s g x) (λ y n. below-shares x y (listed-together x m) (listed-together y n))))
 
   -- The computed order is the order over paths.
   pub subsumes-exact : (subsumes 𝓛 sameA sameB s g k ≡ true) ↔ Below 𝓛 s g

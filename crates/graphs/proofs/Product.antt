@@ -10,7 +10,7 @@ use Prim.Native.Nat.{ℕ}
 use Rattle.graphs.specs.Label.{Labels, Lattice}
 use Rattle.graphs.specs.Graph.{Graph, Below, SameMeaning, AnySize, walk, follow, step, Corefer}
 use Rattle.graphs.specs.Bounds.{LeastAbove, GreatestBelow}
-use Rattle.graphs.specs.Generalize.{both, IsGeneralization, generalizationBy, generalization}
+use Rattle.graphs.specs.Generalize.{both, IsGeneralization, generalization_by, generalization}
 use Rattle.graphs.proofs.Walk.{some-injective, none-some}
 use Rattle.graphs.proofs.Finite.{above-any-size}
 use Rattle.graphs.proofs.Below.{below-trans, below-labels, below-antisym}
@@ -28,22 +28,22 @@ module _ {A B : Type 0} where
       (ap (λ x. some x.0) (some-injective e), ap (λ x. some x.1) (some-injective e))
 
   module _ (l : A → ℕ → Option A) (m : B → ℕ → Option B) where
-    abbrev pairLink : A × B → ℕ → Option (A × B)
-    pairLink x f = both (l x.0 f) (m x.1 f)
+    abbrev pair_link : A × B → ℕ → Option (A × B)
+    pair_link x f = both (l x.0 f) (m x.1 f)
 
-    pair_step : (o : Option A) (i : Option B) (f : ℕ) → step pairLink (both o i) f ≡ both (step l o f) (step m i f)
+    pair_step : (o : Option A) (i : Option B) (f : ℕ) → step pair_link (both o i) f ≡ both (step l o f) (step m i f)
     pair_step none i f = refl
     pair_step (some v) none f = sym (both-none (l v f))
     pair_step (some v) (some w) f = refl
 
-    pair-follow : (o : Option A) (i : Option B) (p : List ℕ) → follow pairLink (both o i) p ≡ both (follow l o p) (follow m i p)
+    pair-follow : (o : Option A) (i : Option B) (p : List ℕ) → follow pair_link (both o i) p ≡ both (follow l o p) (follow m i p)
     unfolding follow
     pair-follow o i [] = refl
-    pair-follow o i (f ∷ p) = ap (λ z. follow pairLink z p) (pair_step o i f) ∙ pair-follow (step l o f) (step m i f) p
+    pair-follow o i (f ∷ p) = ap (λ z. follow pair_link z p) (pair_step o i f) ∙ pair-follow (step l o f) (step m i f) p
 
 module _ (𝓛 : Labels) {A B : Type 0} (g : Graph 𝓛.L A) (h : Graph 𝓛.L B) where
   pub product-walk : (p : List ℕ) → walk (generalization 𝓛 g h) p ≡ both (walk g p) (walk h p)
-  unfolding generalizationBy
+  unfolding generalization_by
   product-walk p = pair-follow g.link h.link (some g.root) (some h.root) p
 
   -- The product walks where both graphs do.
@@ -53,7 +53,7 @@ module _ (𝓛 : Labels) {A B : Type 0} (g : Graph 𝓛.L A) (h : Graph 𝓛.L B
       (λ e. both_some (walk g p) (walk h p) (sym (product-walk p) ∙ e), λ d. product-walk p ∙ ap₂ both d.0 d.1)
 
   pub product-is-generalization : IsGeneralization 𝓛 g h (generalization 𝓛 g h)
-  unfolding generalizationBy
+  unfolding generalization_by
   product-is-generalization =
       record {
         there = λ p x e.

@@ -71,43 +71,43 @@ listed-length (mathlib.Core.List.Memᴰ.head e) = omega arith
 listed-length (mathlib.Core.List.Memᴰ.tail m) = omega arith
 
 module _ {X Y : Type 0} (find : X → Option Y) where
-  pub firstOf-some : (xs : List X) (y : Y) → first_of xs find ≡ some y → (x : X) × Memᴰ x xs × (find x ≡ some y)
+  pub first_of-some : (xs : List X) (y : Y) → first_of xs find ≡ some y → (x : X) × Memᴰ x xs × (find x ≡ some y)
   unfolding first_of
-  firstOf-some [] y e = none-some e
-  firstOf-some (x ∷ xs) y e =
-      ⊎_elim (λ h. (x, mathlib.Core.List.Memᴰ.head refl, h)) (λ r. let (z, m, h) = firstOf-some xs y r.1 in (z, mathlib.Core.List.Memᴰ.tail m, h))
+  first_of-some [] y e = none-some e
+  first_of-some (x ∷ xs) y e =
+      ⊎_elim (λ h. (x, mathlib.Core.List.Memᴰ.head refl, h)) (λ r. let (z, m, h) = first_of-some xs y r.1 in (z, mathlib.Core.List.Memᴰ.tail m, h))
       ((or_else-eq-some (find x) (first_of xs find) y).0 e)
 
-  pub firstOf-none : (xs : List X) → first_of xs find ≡ none → (x : X) → Memᴰ x xs → find x ≡ none
+  pub first_of-none : (xs : List X) → first_of xs find ≡ none → (x : X) → Memᴰ x xs → find x ≡ none
   unfolding first_of
-  firstOf-none [] e x m = absurd (mathlib.Core.List.Memᴰ.not-nil m)
-  firstOf-none (z ∷ xs) e x m =
+  first_of-none [] e x m = absurd (mathlib.Core.List.Memᴰ.not-nil m)
+  first_of-none (z ∷ xs) e x m =
       let (h, later) = (or_else-eq-none (find z) (first_of xs find)).0 e in
-      ⊎_elim (λ q. ap find q ∙ h) (firstOf-none xs later x) (mathlib.Core.List.Memᴰ.cases_cons m)
+      ⊎_elim (λ q. ap find q ∙ h) (first_of-none xs later x) (mathlib.Core.List.Memᴰ.cases_cons m)
 
   -- if a search finds a value at some element of a list, it finds a value along the list
-  pub firstOf-finds : (xs : List X) (x : X) (y : Y) → Memᴰ x xs → find x ≡ some y → (z : Y) × (first_of xs find ≡ some z)
-  firstOf-finds xs x y m e = go (first_of xs find) refl
+  pub first_of-finds : (xs : List X) (x : X) (y : Y) → Memᴰ x xs → find x ≡ some y → (z : Y) × (first_of xs find ≡ some z)
+  first_of-finds xs x y m e = go (first_of xs find) refl
     where
       go : (o : Option Y) → first_of xs find ≡ o → (z : Y) × (first_of xs find ≡ some z)
-      go none h = none-some (sym (firstOf-none xs h x m) ∙ e)
+      go none h = none-some (sym (first_of-none xs h x m) ∙ e)
       go (some z) h = (z, h)
 
 module _ {X : Type 0} (test : X → Bool) where
-  pub anyOf-true : (xs : List X) → any_of xs test ≡ true → (x : X) × Memᴰ x xs × (test x ≡ true)
+  pub any_of-true : (xs : List X) → any_of xs test ≡ true → (x : X) × Memᴰ x xs × (test x ≡ true)
   unfolding any_of
-  anyOf-true [] e = true-false e refl
-  anyOf-true (x ∷ xs) e = go (test x) refl e (anyOf-true xs)
+  any_of-true [] e = true-false e refl
+  any_of-true (x ∷ xs) e = go (test x) refl e (any_of-true xs)
     where
       go : (b : Bool) → test x ≡ b → (b || any_of xs test) ≡ true →
           (any_of xs test ≡ true → (z : X) × Memᴰ z xs × (test z ≡ true)) → (z : X) × Memᴰ z (x ∷ xs) × (test z ≡ true)
       go true h e later = (x, mathlib.Core.List.Memᴰ.head refl, h)
       go false h e later = let r = later e in (r.0, mathlib.Core.List.Memᴰ.tail r.1, r.2)
 
-  pub anyOf-finds : (xs : List X) (x : X) → Memᴰ x xs → test x ≡ true → any_of xs test ≡ true
+  pub any_of-finds : (xs : List X) (x : X) → Memᴰ x xs → test x ≡ true → any_of xs test ≡ true
   unfolding any_of
-  anyOf-finds [] x m e = absurd (mathlib.Core.List.Memᴰ.not-nil m)
-  anyOf-finds (z ∷ xs) x m e = go (test z) refl (anyOf-finds xs x) (mathlib.Core.List.Memᴰ.cases_cons m)
+  any_of-finds [] x m e = absurd (mathlib.Core.List.Memᴰ.not-nil m)
+  any_of-finds (z ∷ xs) x m e = go (test z) refl (any_of-finds xs x) (mathlib.Core.List.Memᴰ.cases_cons m)
     where
       go : (b : Bool) → test z ≡ b → (Memᴰ x xs → test x ≡ true → any_of xs test ≡ true) →
           (x ≡ z) ⊎ Memᴰ x xs → (b || any_of xs test) ≡ true

@@ -12,12 +12,12 @@ use Rattle.graphs.specs.Graph.{Graph, TellsApart, Reached, Below, SameMeaning, A
 use Rattle.graphs.specs.Map.{NodeMap, Exact}
 use Rattle.graphs.specs.Bounds.{LeastAbove, GreatestBelow}
 use Rattle.graphs.specs.Rows.{Row, graph_of}
-use Rattle.graphs.specs.Number.{canonical, written, manyNodes, manyLinks}
+use Rattle.graphs.specs.Number.{canonical, written, many_nodes, many_links}
 use Rattle.graphs.specs.Large.{ManyNodes, ManyLinks}
 use Rattle.graphs.specs.Order.{subsumes}
 use Rattle.graphs.specs.Generalize.{IsGeneralization, generalization}
-use Rattle.graphs.specs.Unify.{Cycle, Clash, IsUnification, Unified, cycle, clash, unified, unification, classGraph}
-use Rattle.graphs.specs.Difference.{Link, StrictOrder, IsResidual, IsWanted, meetOver, group_of, difference}
+use Rattle.graphs.specs.Unify.{Cycle, Clash, IsUnification, Unified, cycle, clash, unified, unification, class_graph}
+use Rattle.graphs.specs.Difference.{Link, StrictOrder, IsResidual, IsWanted, meet_over, group_of, difference}
 use Rattle.graphs.specs.Relations.{Into, LiesOver, Grouped, KeptLink}
 use Rattle.graphs.proofs.Below as Below
 use Rattle.graphs.proofs.Finite as Finite
@@ -63,15 +63,15 @@ module _ (𝓛 : Labels) (lattice : Lattice 𝓛) where
 
   pub order-computed : {A B : Type 0} (sameA : A → A → Bool) (sameB : B → B → Bool) → TellsApart sameA → TellsApart sameB → (s : Graph 𝓛.L A)
       (g : Graph 𝓛.L B) (b : AnySize 𝓛 g) → (subsumes 𝓛 sameA sameB s g (length b.nodes) ≡ true) ↔ Below 𝓛 s g
-  order-computed sameA sameB tellsA tellsB s g b =
-      Order.subsumes-exact 𝓛 sameA sameB tellsA tellsB s g b.features (length b.nodes)
+  order-computed sameA sameB tells_a tells_b s g b =
+      Order.subsumes-exact 𝓛 sameA sameB tells_a tells_b s g b.features (length b.nodes)
       (Finite.short-paths g b.nodes (λ v r. (b.listed v).0 r) b.acyclic)
 
   -- 2. The written form depends on meaning alone and has the graph's meaning. A graph has none exactly where it is too large.
 
   pub form-of-meaning : {A B : Type 0} (sameA : A → A → Bool) (sameB : B → B → Bool) → TellsApart sameA → TellsApart sameB →
       (g : Graph 𝓛.L A) (h : Graph 𝓛.L B) → SameMeaning 𝓛 g h → canonical sameA g ≡ canonical sameB h
-  form-of-meaning sameA sameB tellsA tellsB g h m = Invariant.same-canonical 𝓛 sameA sameB tellsA tellsB g h m
+  form-of-meaning sameA sameB tells_a tells_b g h m = Invariant.same-canonical 𝓛 sameA sameB tells_a tells_b g h m
 
   pub meaning-of-form : {A : Type 0} (same : A → A → Bool) → TellsApart same → (g : Graph 𝓛.L A) → Narrow g →
       (form : List (Row 𝓛.L)) → canonical same g ≡ written form → SameMeaning 𝓛 g (graph_of 𝓛.top form)
@@ -80,15 +80,15 @@ module _ (𝓛 : Labels) (lattice : Lattice 𝓛) where
   pub form-exact : {A B : Type 0} (sameA : A → A → Bool) (sameB : B → B → Bool) → TellsApart sameA → TellsApart sameB → (g : Graph 𝓛.L A)
       (h : Graph 𝓛.L B) → Narrow g → Narrow h → (form : List (Row 𝓛.L)) → canonical sameA g ≡ written form →
       SameMeaning 𝓛 g h ↔ (canonical sameB h ≡ written form)
-  form-exact sameA sameB tellsA tellsB g h narrowA narrowB form e =
-      Canonical.canonical-exact 𝓛 sameA sameB tellsA tellsB g h narrowA narrowB form e
+  form-exact sameA sameB tells_a tells_b g h narrowA narrowB form e =
+      Canonical.canonical-exact 𝓛 sameA sameB tells_a tells_b g h narrowA narrowB form e
 
   pub too-many-nodes : {A : Type 0} (same : A → A → Bool) → TellsApart same → (g : Graph 𝓛.L A) → Narrow g →
-      (canonical same g ≡ manyNodes) ↔ ManyNodes g
+      (canonical same g ≡ many_nodes) ↔ ManyNodes g
   too-many-nodes same tells g narrow = Large.canonical-many-nodes same tells g narrow
 
   pub too-many-links : {A : Type 0} (same : A → A → Bool) → TellsApart same → (g : Graph 𝓛.L A) → Narrow g →
-      (canonical same g ≡ manyLinks) ↔ ((ManyNodes g → ⊥) × ManyLinks g)
+      (canonical same g ≡ many_links) ↔ ((ManyNodes g → ⊥) × ManyLinks g)
   too-many-links same tells g narrow = Large.canonical-many-links same tells g narrow
 
   pub fits : {A : Type 0} (same : A → A → Bool) → TellsApart same → (g : Graph 𝓛.L A) → Narrow g →
@@ -111,10 +111,10 @@ module _ (𝓛 : Labels) (lattice : Lattice 𝓛) where
   -- 4. Unification as it is computed on nodes is the closure over paths. The unification is the greatest graph below both, and of any
   -- size. There is a cycle or a clash exactly when no graph of any size lies below both, and a cycle is told before a clash.
 
-  module _ {A B : Type 0} (sameA : A → A → Bool) (sameB : B → B → Bool) (tellsA : TellsApart sameA) (tellsB : TellsApart sameB)
+  module _ {A B : Type 0} (sameA : A → A → Bool) (sameB : B → B → Bool) (tells_a : TellsApart sameA) (tells_b : TellsApart sameB)
       (g : Graph 𝓛.L A) (h : Graph 𝓛.L B) (a : AnySize 𝓛 g) (b : AnySize 𝓛 h) where
     given : Operands sameA sameB g a.nodes h b.nodes
-    given = any-size-operands tellsA tellsB a b
+    given = any-size-operands tells_a tells_b a b
 
     pub unification-is : (u : Graph 𝓛.L (A ⊎ B)) → unification 𝓛 sameA sameB g a.nodes h b.nodes ≡ unified u →
         IsUnification 𝓛 g h u × AnySize 𝓛 u × GreatestBelow 𝓛 g h u
@@ -178,16 +178,16 @@ module _ (𝓛 : Labels) (lattice : Lattice 𝓛) where
   -- A lattice that admits differences has a wanted label at every node of s.
   pub wanted-exists : ((q p : 𝓛.L) → (c : 𝓛.L) × IsResidual 𝓛 q p c) → {A B : Type 0} (sameA : A → A → Bool) (sameB : B → B → Bool) →
       TellsApart sameA → TellsApart sameB → (s : Graph 𝓛.L A) (g : Graph 𝓛.L B) (a : AnySize 𝓛 s) (b : AnySize 𝓛 g) (over : B → A) →
-      NodeMap 𝓛 s g over → (v : A) → (c : 𝓛.L) × IsWanted 𝓛 (meetOver 𝓛 sameA g b.nodes over v) (s.label v) c
-  wanted-exists admits sameA sameB tellsA tellsB s g a b over map v =
-      Wanted.wanted-exists lattice (any-size-operands tellsA tellsB a b) over admits map v
+      NodeMap 𝓛 s g over → (v : A) → (c : 𝓛.L) × IsWanted 𝓛 (meet_over 𝓛 sameA g b.nodes over v) (s.label v) c
+  wanted-exists admits sameA sameB tells_a tells_b s g a b over map v =
+      Wanted.wanted-exists lattice (any-size-operands tells_a tells_b a b) over admits map v
 
   -- 7. The difference of g and s: s is below g by a node map, links are in any strict total order, and each node of s has a wanted label.
 
-  module _ {A B : Type 0} (sameA : A → A → Bool) (sameB : B → B → Bool) (tellsA : TellsApart sameA) (tellsB : TellsApart sameB)
+  module _ {A B : Type 0} (sameA : A → A → Bool) (sameB : B → B → Bool) (tells_a : TellsApart sameA) (tells_b : TellsApart sameB)
       (s : Graph 𝓛.L A) (g : Graph 𝓛.L B) (a : AnySize 𝓛 s) (b : AnySize 𝓛 g) (over : B → A) (map : NodeMap 𝓛 s g over)
       (earlier : Link A → Link A → Bool) (order : StrictOrder earlier) (wanted : A → 𝓛.L)
-      (wants : (v : A) → Reached s v → IsWanted 𝓛 (meetOver 𝓛 sameA g b.nodes over v) (s.label v) (wanted v)) where
+      (wants : (v : A) → Reached s v → IsWanted 𝓛 (meet_over 𝓛 sameA g b.nodes over v) (s.label v) (wanted v)) where
     abbrev d : Graph 𝓛.L A
     d = difference 𝓛 sameA sameB earlier s a.nodes g b.nodes over wanted
 
@@ -195,7 +195,7 @@ module _ (𝓛 : Labels) (lattice : Lattice 𝓛) where
     set =
         record {
           lattice = lattice;
-          operands = any-size-operands tellsA tellsB a b;
+          operands = any-size-operands tells_a tells_b a b;
           order = order;
           sound = a;
           map = map;
@@ -239,8 +239,8 @@ module _ (𝓛 : Labels) (lattice : Lattice 𝓛) where
     pub difference-unified : (u : Graph 𝓛.L (A ⊎ B)) ×
         (unification 𝓛 sameA sameB d difference-any-size.nodes g b.nodes ≡ unified u) × SameMeaning 𝓛 u s
     difference-unified =
-        let given = any-size-operands tellsA tellsB difference-any-size b in
-        let u = classGraph 𝓛.meet 𝓛.top sameA sameB d difference-any-size.nodes g b.nodes in
+        let given = any-size-operands tells_a tells_b difference-any-size b in
+        let u = class_graph 𝓛.meet 𝓛.top sameA sameB d difference-any-size.nodes g b.nodes in
         let found = Outcome.bounded-graph lattice given a difference-restores.left difference-restores.right in
         let is = (Outcome.graph-right lattice given u found).1 in
         (u, found, Difference.difference-restores 𝓛 sameA sameB earlier s a.nodes g b.nodes over wanted set is)
@@ -250,8 +250,8 @@ module _ (𝓛 : Labels) (lattice : Lattice 𝓛) where
         (Below 𝓛 e d → ⊥) → (u : Graph 𝓛.L (E ⊎ B)) × (unification 𝓛 sameE sameB e c.nodes g b.nodes ≡ unified u) × Below 𝓛 s u ×
         (Below 𝓛 u s → ⊥)
     difference-most-general sameE tellsE e c above strict =
-        let given = any-size-operands tellsE tellsB c b in
-        let u = classGraph 𝓛.meet 𝓛.top sameE sameB e c.nodes g b.nodes in
+        let given = any-size-operands tellsE tells_b c b in
+        let u = class_graph 𝓛.meet 𝓛.top sameE sameB e c.nodes g b.nodes in
         let found = Outcome.bounded-graph lattice given a (Below.below-trans lattice difference-restores.left above) difference-restores.right in
         let (x, y) = Difference.difference-nothing-more-general 𝓛 sameA sameB earlier s a.nodes g b.nodes over wanted set e u above strict
         (Outcome.graph-right lattice given u found).1 in

@@ -20,8 +20,8 @@ module _ (𝓛 : Labels) {A B : Type 0} where
     pub corefers : (p q : List ℕ) → Corefer k p q ↔ (Corefer g p q × Corefer h p q)
 
 -- The product graph by a join of labels: its nodes are pairs of nodes, and a pair has the features that both of its nodes have.
-unfoldable pub generalizationBy : {L A B : Type 0} → (L → L → L) → Graph L A → Graph L B → Graph L (A × B)
-generalizationBy join g h =
+unfoldable pub generalization_by : {L A B : Type 0} → (L → L → L) → Graph L A → Graph L B → Graph L (A × B)
+generalization_by join g h =
     record {
       root = (g.root, h.root);
       label = λ x. join (g.label x.0) (h.label x.1);
@@ -30,4 +30,4 @@ generalizationBy join g h =
 
 -- the product graph by the join of the labels 𝓛
 abbrev pub generalization : (𝓛 : Labels) {A B : Type 0} → Graph 𝓛.L A → Graph 𝓛.L B → Graph 𝓛.L (A × B)
-generalization 𝓛 g h = generalizationBy 𝓛.join g h
+generalization 𝓛 g h = generalization_by 𝓛.join g h

@@ -25,9 +25,9 @@ ManyLinks {A = A} g =
     (2048 < length ls)
 
 -- the number of links in rows
-unfoldable pub linksIn : {L : Type 0} → List (Row L) → ℕ
-linksIn [] = 0
-linksIn (r ∷ rs) = length r.1 + linksIn rs
+unfoldable pub links_in : {L : Type 0} → List (Row L) → ℕ
+links_in [] = 0
+links_in (r ∷ rs) = length r.1 + links_in rs
 
 -- "lowest feature first": each link's feature is less than those of the links after it
 abbrev pub Ascending : List (ℕ × ℕ) → Type 0

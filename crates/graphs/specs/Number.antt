@@ -4,7 +4,7 @@ use Rattle.std.specs.Prelude.{Bool, true, false, cond, ◌||◌, List, [], ◌�
 use Rattle.std.proofs.Math.Option
 use Rattle.std.proofs.Math.Option.{Option, none, some, bind}
 use Rattle.graphs.specs.Graph.{Graph}
-use Rattle.graphs.specs.Rows.{Row, features, linksOf}
+use Rattle.graphs.specs.Rows.{Row, features, links_of}
 
 -- The first value where the test holds, else the second. The second is computed only where the test fails.
 abbrev pub otherwise : {X : Type 0} → Bool → X → (Unit {0} → X) → X
@@ -12,9 +12,9 @@ otherwise true x y = x
 otherwise false x y = y tt
 
 -- 1 for a value, 0 for none
-abbrev pub countSome : {X : Type 0} → Option X → ℕ
-countSome none = 0
-countSome (some x) = 1
+abbrev pub count_some : {X : Type 0} → Option X → ℕ
+count_some none = 0
+count_some (some x) = 1
 
 module _ {A : Type 0} (same : A → A → Bool) where
   -- whether v is in a list
@@ -39,14 +39,14 @@ module _ {A : Type 0} (link : A → ℕ → Option A) where
   each go v (f ∷ fs) seen = bind (enter go (link v f) seen) (each go v fs)
 
   -- the number of links that leave v by the features given
-  unfoldable pub outDegree : A → List ℕ → ℕ
-  outDegree v [] = 0
-  outDegree v (f ∷ fs) = countSome (link v f) + outDegree v fs
+  unfoldable pub out_degree : A → List ℕ → ℕ
+  out_degree v [] = 0
+  out_degree v (f ∷ fs) = count_some (link v f) + out_degree v fs
 
   -- the number of links that leave the nodes of a list
-  unfoldable pub linkCount : List A → ℕ
-  linkCount [] = 0
-  linkCount (v ∷ vs) = outDegree v features + linkCount vs
+  unfoldable pub link_count : List A → ℕ
+  link_count [] = 0
+  link_count (v ∷ vs) = out_degree v features + link_count vs
 
 module _ {A : Type 0} (same : A → A → Bool) (link : A → ℕ → Option A) where
   -- "Written records number the nodes by first visit, from the root, lowest feature first, following links downward": the
@@ -60,22 +60,22 @@ module _ {A : Type 0} (same : A → A → Bool) (link : A → ℕ → Option A) 
 
 -- The written form of a graph: the graph has more than 255 nodes, or more than 2,048 links, or the form is its rows.
 pub data Canonical (L : Type 0) : Type 0 where
-  manyNodes : Canonical L
-  manyLinks : Canonical L
+  many_nodes : Canonical L
+  many_links : Canonical L
   written : List (Row L) → Canonical L
 
 module _ {L A : Type 0} (same : A → A → Bool) (g : Graph L A) where
   -- the row of the node v, where the nodes are numbered by their places in a list
   unfoldable pub row_of : List A → A → Row L
-  row_of nodes v = (g.label v, linksOf (λ f. Option.map (λ w. index_of same w nodes) (g.link v f)) features)
+  row_of nodes v = (g.label v, links_of (λ f. Option.map (λ w. index_of same w nodes) (g.link v f)) features)
 
   -- the written form, from the nodes that the visit saw, the last first
   abbrev pub counted : Option (List A) → Canonical L
-  counted none = manyNodes
+  counted none = many_nodes
   counted (some seen) =
-      cond (leb (linkCount g.link seen) 2048)
+      cond (leb (link_count g.link seen) 2048)
       (let nodes = reverse seen in written (map (row_of nodes) nodes))
-      manyLinks
+      many_links
 
   -- the written form of g, whose visit follows links "never deeper than 254 links"
   unfoldable pub canonical : Canonical L

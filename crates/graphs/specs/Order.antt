@@ -31,13 +31,13 @@ there (some x) (some y) = true
 
 module _ (𝓛 : Labels) {A B : Type 0} (sameA : A → A → Bool) (sameB : B → B → Bool) (s : Graph 𝓛.L A) (g : Graph 𝓛.L B) where
   -- "every path of g is a path of s, its type in s is below or equal to its type in g": the test of one pair of nodes
-  unfoldable pub fitsAt : A × B → Bool
-  fitsAt x = 𝓛.le (s.label x.0) (g.label x.1) && all_of features λ f. there (g.link x.1 f) (s.link x.0 f)
+  unfoldable pub fits_at : A × B → Bool
+  fits_at x = 𝓛.le (s.label x.0) (g.label x.1) && all_of features λ f. there (g.link x.1 f) (s.link x.0 f)
 
   -- "paths that share in g share in s": the test of two pairs of nodes
-  abbrev pub sharesAt : A × B → A × B → Bool
-  sharesAt x y = not (sameB x.1 y.1) || sameA x.0 y.0
+  abbrev pub shares_at : A × B → A × B → Bool
+  shares_at x y = not (sameB x.1 y.1) || sameA x.0 y.0
 
   -- Whether s is below g. Every walk of g has to have fewer than k links.
   unfoldable pub subsumes : ℕ → Bool
-  subsumes k = let xs = meetings s g k in all_of xs fitsAt && all_of xs λ x. all_of xs (sharesAt x)
+  subsumes k = let xs = meetings s g k in all_of xs fits_at && all_of xs λ x. all_of xs (shares_at x)

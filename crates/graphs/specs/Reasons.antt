@@ -3,17 +3,17 @@
 use Rattle.std.specs.Prelude.{◌≡◌, Bool, cond, List, [], ◌∷◌, ◌++◌, map, reverse, ◌↔◌, ◌⊎◌, ℕ, suc}
 use Rattle.std.proofs.Math.Option.{Option, none, some}
 use Rattle.graphs.specs.Graph.{Graph}
-use Rattle.graphs.specs.Rows.{Row, features, linksOf}
+use Rattle.graphs.specs.Rows.{Row, features, links_of}
 use Rattle.graphs.specs.Number.{visit}
 use Rattle.graphs.specs.Difference.{Link, bare, differ, leaders}
 use Rattle.graphs.specs.Relations.{SomethingOver, NothingOver, TwoGroups, KeptLink}
 
 -- "1 when nothing of the general graph lies over the link; else 2 when the node it enters has two or more groups; else 3": the reason for
 -- a link of s that enters v
-unfoldable pub reasonAt :
+unfoldable pub reason_at :
     {L A B : Type 0} (sameA : A → A → Bool) (sameB : B → B → Bool) (s : Graph L A) (ss : List A) (g : Graph L B) (gs : List B)
     (over : B → A) (earlier : Link A → Link A → Bool) → Link A → A → ℕ
-reasonAt sameA sameB s ss g gs over earlier l v =
+reason_at sameA sameB s ss g gs over earlier l v =
     cond (bare sameA sameB s ss g gs over l) 1
     (cond (differ sameA sameB s ss g gs over (leaders sameA sameB s ss g gs over earlier v)) 2 3)
 
@@ -23,23 +23,23 @@ order_in none = []
 order_in (some seen) = reverse seen
 
 -- the nodes of a graph in the order in which its record numbers them
-unfoldable pub writtenOrder : {L A : Type 0} → (A → A → Bool) → Graph L A → List A
-writtenOrder same d = order_in (visit same d.link 255 d.root [])
+unfoldable pub written_order : {L A : Type 0} → (A → A → Bool) → Graph L A → List A
+written_order same d = order_in (visit same d.link 255 d.root [])
 
 -- One value for each link of the nodes of a list: the nodes come in turn, and the links of a node by feature. A value may depend on the
 -- link and on the node that the link enters.
-unfoldable pub alongLinks : {L X : Type 0} → Graph L ℕ → (Link ℕ → ℕ → X) → List ℕ → List X
-alongLinks d value [] = []
-alongLinks d value (v ∷ vs) = map (λ l. value (v, l.0) l.1) (linksOf (d.link v) features) ++ alongLinks d value vs
+unfoldable pub along_links : {L X : Type 0} → Graph L ℕ → (Link ℕ → ℕ → X) → List ℕ → List X
+along_links d value [] = []
+along_links d value (v ∷ vs) = map (λ l. value (v, l.0) l.1) (links_of (d.link v) features) ++ along_links d value vs
 
 -- the links of rows that are numbered from k up
-unfoldable pub linksFromRow : {L : Type 0} → ℕ → List (Row L) → List (Link ℕ)
-linksFromRow k [] = []
-linksFromRow k (row ∷ rows) = map (λ l. (k, l.0)) row.1 ++ linksFromRow (suc k) rows
+unfoldable pub links_from_row : {L : Type 0} → ℕ → List (Row L) → List (Link ℕ)
+links_from_row k [] = []
+links_from_row k (row ∷ rows) = map (λ l. (k, l.0)) row.1 ++ links_from_row (suc k) rows
 
 -- the links of a record "in record order": node after node, each node's links in turn
-abbrev pub linksInOrder : {L : Type 0} → List (Row L) → List (Link ℕ)
-linksInOrder rows = linksFromRow 0 rows
+abbrev pub links_in_order : {L : Type 0} → List (Row L) → List (Link ℕ)
+links_in_order rows = links_from_row 0 rows
 
 module _ {L A B : Type 0} (s : Graph L A) (g : Graph L B) (earlier : Link A → Link A → Bool) (Wants : A → Type 0) where
   -- What the reason for a link that enters v tells of the two graphs. A link with reason 3 enters a node that has "a wanted type or

@@ -52,15 +52,15 @@ module _ {L A B : Type 0} (s : Graph L A) (g : Graph L B) where
       -- The nodes of s that are kept:
       pub data Kept : A → Type 0 where
         -- "The root is always kept."
-        isRoot : {v : A} → v ≡ s.root → Kept v
+        is_root : {v : A} → v ≡ s.root → Kept v
         -- "With two or more groups, the difference keeps the least link of each."
-        manyGroups : {v : A} → TwoGroups v → Kept v
+        many_groups : {v : A} → TwoGroups v → Kept v
         -- "With one group, it keeps the least link if nothing of g lies over that group": such a group is one link.
-        nothingOver : {v : A} {l : Link A} → Into s v l → NothingOver l → Kept v
+        nothing_over : {v : A} {l : Link A} → Into s v l → NothingOver l → Kept v
         -- "or the wanted type is not top"
-        wantsLabel : {v : A} → Wants v → Kept v
+        wants_label : {v : A} → Wants v → Kept v
         -- "or a link leaving this node is kept. Otherwise none."
-        keepsLink : {v w : A} {f : ℕ} → LeastOfGroup w (v, f) → Kept w → Kept v
+        keeps_link : {v w : A} {f : ℕ} → LeastOfGroup w (v, f) → Kept w → Kept v
 
       -- the link of s from u by f, which enters v, is kept: it is the least of its group, and v is kept
       abbrev pub KeptLink : A → ℕ → A → Type 0

@@ -28,11 +28,11 @@ graph_of d rows =
     record { root = 0; label = λ v. (get_or rows v (d, [])).0; link = λ v f. target (get_or rows v (d, [])).1 f }
 
 -- the links, and before them the link by feature f if f has a target
-abbrev pub addLink : ℕ → Option ℕ → List (ℕ × ℕ) → List (ℕ × ℕ)
-addLink f none ls = ls
-addLink f (some w) ls = (f, w) ∷ ls
+abbrev pub add_link : ℕ → Option ℕ → List (ℕ × ℕ) → List (ℕ × ℕ)
+add_link f none ls = ls
+add_link f (some w) ls = (f, w) ∷ ls
 
 -- the links by the features of a list, where `next` gives their targets
-unfoldable pub linksOf : (ℕ → Option ℕ) → List ℕ → List (ℕ × ℕ)
-linksOf next [] = []
-linksOf next (f ∷ fs) = addLink f (next f) (linksOf next fs)
+unfoldable pub links_of : (ℕ → Option ℕ) → List ℕ → List (ℕ × ℕ)
+links_of next [] = []
+links_of next (f ∷ fs) = add_link f (next f) (links_of next fs)

@@ -52,16 +52,16 @@ beside l m (inl v) f = Option.map inl (l v f)
 beside l m (inr v) f = Option.map inr (m v f)
 
 -- the labels of two graphs side by side
-abbrev pub labelBeside : {L A B : Type 0} → (A → L) → (B → L) → A ⊎ B → L
-labelBeside l m (inl v) = l v
-labelBeside l m (inr v) = m v
+abbrev pub label_beside : {L A B : Type 0} → (A → L) → (B → L) → A ⊎ B → L
+label_beside l m (inl v) = l v
+label_beside l m (inr v) = m v
 
 -- whether two nodes of graphs side by side are one node
-abbrev pub sameBeside : {A B : Type 0} → (A → A → Bool) → (B → B → Bool) → A ⊎ B → A ⊎ B → Bool
-sameBeside s t (inl v) (inl w) = s v w
-sameBeside s t (inl v) (inr w) = false
-sameBeside s t (inr v) (inl w) = false
-sameBeside s t (inr v) (inr w) = t v w
+abbrev pub same_beside : {A B : Type 0} → (A → A → Bool) → (B → B → Bool) → A ⊎ B → A ⊎ B → Bool
+same_beside s t (inl v) (inl w) = s v w
+same_beside s t (inl v) (inr w) = false
+same_beside s t (inr v) (inl w) = false
+same_beside s t (inr v) (inr w) = t v w
 
 -- the first value that a search finds along a list
 unfoldable pub first_of : {X Y : Type 0} → List X → (X → Option Y) → Option Y
@@ -116,12 +116,12 @@ module _ {N : Type 0} (same : N → N → Bool) (link : N → ℕ → Option N) 
   close (suc k) name = close k (settle same name (unsettled name))
 
   -- the target of a class by a feature: the class of the target of the first of its nodes that has the feature
-  unfoldable pub classLink : (N → N) → N → ℕ → Option N
-  classLink name c f = first_of nodes λ x. cond (same (name x) c) (Option.map name (link x f)) none
+  unfoldable pub class_link : (N → N) → N → ℕ → Option N
+  class_link name c f = first_of nodes λ x. cond (same (name x) c) (Option.map name (link x f)) none
 
 -- "a class has the meet of all types in it"
-unfoldable pub classLabel : {L N : Type 0} → (L → L → L) → L → (N → N → Bool) → List N → (N → L) → (N → N) → N → L
-classLabel meet top same nodes label name c = foldr (λ x a. cond (same (name x) c) (meet (label x) a) a) top nodes
+unfoldable pub class_label : {L N : Type 0} → (L → L → L) → L → (N → N → Bool) → List N → (N → L) → (N → N) → N → L
+class_label meet top same nodes label name c = foldr (λ x a. cond (same (name x) c) (meet (label x) a) a) top nodes
 
 -- Unification gives a loop, or a clash and no loop, or a graph.
 pub data Unified (L N : Type 0) : Type 0 where
@@ -130,54 +130,54 @@ pub data Unified (L N : Type 0) : Type 0 where
   unified : Graph L N → Unified L N
 
 -- the nodes of both graphs
-abbrev pub nodesBeside : {A B : Type 0} → List A → List B → List (A ⊎ B)
-nodesBeside gs hs = map inl gs ++ map inr hs
+abbrev pub nodes_beside : {A B : Type 0} → List A → List B → List (A ⊎ B)
+nodes_beside gs hs = map inl gs ++ map inr hs
 
 module _ {L A B : Type 0} (sameA : A → A → Bool) (sameB : B → B → Bool) where
   -- The name of each node's class: the roots are joined, and the merges that follow are made. The two lists give the nodes of the graphs.
-  unfoldable pub className : Graph L A → List A → Graph L B → List B → A ⊎ B → A ⊎ B
-  className g gs h hs =
-      let same = sameBeside sameA sameB in
-      let nodes = nodesBeside gs hs in
+  unfoldable pub class_name : Graph L A → List A → Graph L B → List B → A ⊎ B → A ⊎ B
+  class_name g gs h hs =
+      let same = same_beside sameA sameB in
+      let nodes = nodes_beside gs hs in
       close same (beside g.link h.link) nodes (length nodes) (merge same (λ x. x) (inl g.root) (inr h.root))
 
   -- Whether a class reaches itself: then a walk of as many links as there are nodes starts at the class of the roots.
-  unfoldable pub hasCycle : Graph L A → List A → Graph L B → List B → Bool
-  hasCycle g gs h hs =
-      let same = sameBeside sameA sameB in
-      let name = className g gs h hs in
-      deep (classLink same (beside g.link h.link) (nodesBeside gs hs) name) (length gs + length hs) (name (inl g.root))
+  unfoldable pub has_cycle : Graph L A → List A → Graph L B → List B → Bool
+  has_cycle g gs h hs =
+      let same = same_beside sameA sameB in
+      let name = class_name g gs h hs in
+      deep (class_link same (beside g.link h.link) (nodes_beside gs hs) name) (length gs + length hs) (name (inl g.root))
 
 -- Of the labels, the graph of the classes needs the meet and the label that says nothing.
 module _ {L : Type 0} (meet : L → L → L) (top : L) where
   -- the graph of the classes
-  unfoldable pub classGraph : {A B : Type 0} → (A → A → Bool) → (B → B → Bool) → Graph L A → List A → Graph L B → List B → Graph L (A ⊎ B)
-  classGraph sameA sameB g gs h hs =
-      let same = sameBeside sameA sameB in
-      let nodes = nodesBeside gs hs in
-      let name = className sameA sameB g gs h hs in
+  unfoldable pub class_graph : {A B : Type 0} → (A → A → Bool) → (B → B → Bool) → Graph L A → List A → Graph L B → List B → Graph L (A ⊎ B)
+  class_graph sameA sameB g gs h hs =
+      let same = same_beside sameA sameB in
+      let nodes = nodes_beside gs hs in
+      let name = class_name sameA sameB g gs h hs in
       record {
         root = name (inl g.root);
-        label = classLabel meet top same nodes (labelBeside g.label h.label) name;
-        link = classLink same (beside g.link h.link) nodes name;
+        label = class_label meet top same nodes (label_beside g.label h.label) name;
+        link = class_link same (beside g.link h.link) nodes name;
       }
 
 -- Of the labels, unification needs a test for the contradiction too.
 module _ {L : Type 0} (meet : L → L → L) (top : L) (contradiction : L → Bool) {A B : Type 0} (sameA : A → A → Bool) (sameB : B → B → Bool) where
   -- whether the meet of some class is the contradiction
-  unfoldable pub hasClash : Graph L A → List A → Graph L B → List B → Bool
-  hasClash g gs h hs =
-      let u = classGraph meet top sameA sameB g gs h hs in
-      let name = className sameA sameB g gs h hs in
-      any_of (nodesBeside gs hs) λ x. contradiction (u.label (name x))
+  unfoldable pub has_clash : Graph L A → List A → Graph L B → List B → Bool
+  has_clash g gs h hs =
+      let u = class_graph meet top sameA sameB g gs h hs in
+      let name = class_name sameA sameB g gs h hs in
+      any_of (nodes_beside gs hs) λ x. contradiction (u.label (name x))
 
   -- Unification looks for a loop first: refusal 10 is "clash, no loop".
-  unfoldable pub unificationBy : Graph L A → List A → Graph L B → List B → Unified L (A ⊎ B)
-  unificationBy g gs h hs =
-      cond (hasCycle sameA sameB g gs h hs) cycle
-      (cond (hasClash g gs h hs) clash (unified (classGraph meet top sameA sameB g gs h hs)))
+  unfoldable pub unification_by : Graph L A → List A → Graph L B → List B → Unified L (A ⊎ B)
+  unification_by g gs h hs =
+      cond (has_cycle sameA sameB g gs h hs) cycle
+      (cond (has_clash g gs h hs) clash (unified (class_graph meet top sameA sameB g gs h hs)))
 
 -- unification by the meet, the top and the contradiction of the labels 𝓛
 abbrev pub unification : (𝓛 : Labels) {A B : Type 0} → (A → A → Bool) → (B → B → Bool) → Graph 𝓛.L A → List A → Graph 𝓛.L B → List B →
     Unified 𝓛.L (A ⊎ B)
-unification 𝓛 sameA sameB g gs h hs = unificationBy 𝓛.meet 𝓛.top 𝓛.contradiction sameA sameB g gs h hs
+unification 𝓛 sameA sameB g gs h hs = unification_by 𝓛.meet 𝓛.top 𝓛.contradiction sameA sameB g gs h hs

@@ -21,9 +21,9 @@ use Rattle.graphs.proofs.Unification.Beside.{Operands}
 use Rattle.graphs.proofs.Difference.Laws.{Leader, Enters}
 use Rattle.graphs.proofs.Difference.Kept.{enters-into, enters-grouped, grouped-into, grouped-flip, link-over}
 use Rattle.graphs.proofs.Difference.Lead.{lead-least, lead-unique}
-use Rattle.lattice.specs.Labels.{tableLabels}
+use Rattle.lattice.specs.Labels.{table_labels}
 use Rattle.lattice.specs.Label.{Label}
-use Rattle.layout.specs.Layout.{size, featureAt, targetAt, graphIn, Sound, Place, rowsEnd}
+use Rattle.layout.specs.Layout.{size, feature_at, target_at, graph_in, Sound, Place, rows_end}
 use Rattle.layout.proofs.Places.{link-at, link-place}
 use Rattle.layout.proofs.Order.{place-before, one-row, one-feature}
 use Rattle.cover.specs.Cover.{Lying, Covers, Tied, same, shared, back, next, Grouping}
@@ -47,26 +47,26 @@ module _ {ws : List ℕ} (sound : Sound ws) where
       let q : l.1 ≡ m.1 = sym a.feature ∙ b.feature in
       λ i. (p i, q i)
 
-  pub at-link : (k : ℕ) (l : Link ℕ) → At ws k l → (graphIn ws).link l.0 l.1 ≡ some (targetAt ws k)
+  pub at-link : (k : ℕ) (l : Link ℕ) → At ws k l → (graph_in ws).link l.0 l.1 ≡ some (target_at ws k)
   at-link k l a =
-      ap ((graphIn ws).link l.0) (sym a.feature) ∙
+      ap ((graph_in ws).link l.0) (sym a.feature) ∙
       link-at sound l.0 k a.place.inside a.place.low a.place.high
 
-  pub link-stands : (l : Link ℕ) (w : ℕ) → l.0 < size ws → (graphIn ws).link l.0 l.1 ≡ some w →
-      (k : ℕ) × At ws k l × (targetAt ws k ≡ w)
+  pub link-stands : (l : Link ℕ) (w : ℕ) → l.0 < size ws → (graph_in ws).link l.0 l.1 ≡ some w →
+      (k : ℕ) × At ws k l × (target_at ws k ≡ w)
   link-stands l w h e =
       let (k, low, high, f, t) = link-place sound l.0 l.1 w h e in
       (k, record { place = record { inside = h; low = low; high = high }; feature = f }, t)
 
 -- Links and their places, for two graphs of which g lies over s.
 module _ (n : ℕ) (t : List ℕ) {sw gw map : List ℕ} (lying : Lying sw gw map)
-    (operands : Operands eqb eqb (graphIn sw) (from 0 (size sw)) (graphIn gw) (from 0 (size gw)))
-    (lies : NodeMap (tableLabels n t) (graphIn sw) (graphIn gw) (λ y. get_or map y 0)) where
+    (operands : Operands eqb eqb (graph_in sw) (from 0 (size sw)) (graph_in gw) (from 0 (size gw)))
+    (lies : NodeMap (table_labels n t) (graph_in sw) (graph_in gw) (λ y. get_or map y 0)) where
   abbrev s : Graph Label ℕ
-  s = graphIn sw
+  s = graph_in sw
 
   abbrev g : Graph Label ℕ
-  g = graphIn gw
+  g = graph_in gw
 
   abbrev s-sound : Sound sw
   s-sound = lying.lower.sound
@@ -86,24 +86,24 @@ module _ (n : ℕ) (t : List ℕ) {sw gw map : List ℕ} (lying : Lying sw gw ma
   into-inside : (v : ℕ) (l : Link ℕ) → Into s v l → l.0 < size sw
   into-inside v l (r, e) = omega (arith, from-range 0 (size sw) l.0 ((operands.lists-left.listed l.0).0 r))
 
-  into-at : (v : ℕ) (l : Link ℕ) → Into s v l → (k : ℕ) × At sw k l × (targetAt sw k ≡ v)
+  into-at : (v : ℕ) (l : Link ℕ) → Into s v l → (k : ℕ) × At sw k l × (target_at sw k ≡ v)
   into-at v l i = link-stands s-sound l v (into-inside v l i) i.1
 
-  covers_at : {j z : ℕ} → Covers sw gw map (rowsEnd gw) j z → (l : Link ℕ) × At sw j l
+  covers_at : {j z : ℕ} → Covers sw gw map (rows_end gw) j z → (l : Link ℕ) × At sw j l
   covers_at {j} (i, h, o, e) =
-      ((over o.node, featureAt sw j), record { place = o.under; feature = refl })
+      ((over o.node, feature_at sw j), record { place = o.under; feature = refl })
 
-  covers-enters : {j z : ℕ} (l : Link ℕ) → At sw j l → Covers sw gw map (rowsEnd gw) j z → Goes z l
+  covers-enters : {j z : ℕ} (l : Link ℕ) → At sw j l → Covers sw gw map (rows_end gw) j z → Goes z l
   covers-enters {j} {z} l a (i, h, o, e) =
-      let b : At sw j (over o.node, featureAt sw j) =
+      let b : At sw j (over o.node, feature_at sw j) =
       record { place = o.under; feature = refl } in (
         o.node,
         (operands.lists-right.listed o.node).1 (from_member 0 (size gw) o.node (omega arith) (omega (arith, o.place.inside))),
-        one_at s-sound j (over o.node, featureAt sw j) l b a,
+        one_at s-sound j (over o.node, feature_at sw j) l b a,
         ap (g.link o.node) (sym a.feature ∙ o.feature) ∙ link-at g-sound o.node i o.place.inside o.place.low o.place.high ∙ ap some e,
       )
 
-  enters-covers : {j z : ℕ} (l : Link ℕ) → At sw j l → Goes z l → Covers sw gw map (rowsEnd gw) j z
+  enters-covers : {j z : ℕ} (l : Link ℕ) → At sw j l → Goes z l → Covers sw gw map (rows_end gw) j z
   enters-covers {j} {z} l a (y, r, o, e) =
       let h : y < size gw = omega (arith, from-range 0 (size gw) y ((operands.lists-right.listed y).0 r)) in
       let (i, low, high, f, w) = link-place g-sound y l.1 z h e in
@@ -169,7 +169,7 @@ module _ (n : ℕ) (t : List ℕ) {sw gw map : List ℕ} (lying : Lying sw gw ma
       (meets d))
       (meets c)
 
-  module _ {owner parent : List ℕ} (grouping : Grouping sw gw map (rowsEnd gw) owner parent) where
+  module _ {owner parent : List ℕ} (grouping : Grouping sw gw map (rows_end gw) owner parent) where
     abbrev Beside : ℕ → ℕ → Type 0
     Beside j k = Together owner parent j k
 
@@ -178,7 +178,7 @@ module _ (n : ℕ) (t : List ℕ) {sw gw map : List ℕ} (lying : Lying sw gw ma
         omega (arith, a.place.high, (s-sound.shaped.node l.0 a.place.inside).ended, grouping.owner-long)
 
     -- Links at places with owners of one class are in one group.
-    together-grouped : (j k : ℕ) (l m : Link ℕ) → At sw j l → At sw k m → Beside j k → Joins (targetAt sw j) l m
+    together-grouped : (j k : ℕ) (l m : Link ℕ) → At sw j l → At sw k m → Beside j k → Joins (target_at sw j) l m
     together-grouped j k l m a b t =
         let hx = owner-low lying grouping j (within j l a) t.left in
         let hy = owner-low lying grouping k (within k m b) t.right in
@@ -196,11 +196,11 @@ module _ (n : ℕ) (t : List ℕ) {sw gw map : List ℕ} (lying : Lying sw gw ma
         q : Goes y m
         q = covers-enters m b (grouping.owned k (within k m b) t.right)
 
-        u : over x ≡ targetAt sw j
+        u : over x ≡ target_at sw j
         u = some-unique (enters-into lies x l p).1 (at-link s-sound j l a)
 
-        go : (x ≡ y) ⊎ Meeting x y → Joins (targetAt sw j) l m
-        go (inl e) = enters-grouped lies (targetAt sw j) x l m u p (subst (λ z. Goes z m) (sym e) q)
+        go : (x ≡ y) ⊎ Meeting x y → Joins (target_at sw j) l m
+        go (inl e) = enters-grouped lies (target_at sw j) x l m u p (subst (λ z. Goes z m) (sym e) q)
         go (inr c) =
             subst (λ v. Joins v l m) u
             (chain (enters-grouped lies (over x) x l c.from-link refl p c.from-enters)
@@ -230,47 +230,47 @@ module _ (n : ℕ) (t : List ℕ) {sw gw map : List ℕ} (lying : Lying sw gw ma
       first v l = lead eqb eqb s (from 0 (size sw)) g (from 0 (size gw)) over earlier v l
 
       -- A link leads its group if no earlier link stands at a place whose owner is of the same class.
-      place-leads : (k : ℕ) (l : Link ℕ) → At sw k l → Into s (targetAt sw k) l →
-          ((j : ℕ) → j < length owner → Earlier earlier sw j k → Beside j k → ⊥) → first (targetAt sw k) l ≡ l
+      place-leads : (k : ℕ) (l : Link ℕ) → At sw k l → Into s (target_at sw k) l →
+          ((j : ℕ) → j < length owner → Earlier earlier sw j k → Beside j k → ⊥) → first (target_at sw k) l ≡ l
       place-leads k l a i alone =
-          sym (lead-unique operands lies earlier strict (targetAt sw k) l l i (itself i) λ m c. go m c (earlier m l) refl)
+          sym (lead-unique operands lies earlier strict (target_at sw k) l l i (itself i) λ m c. go m c (earlier m l) refl)
         where
-          go : (m : Link ℕ) → Joins (targetAt sw k) l m → (b : Bool) → earlier m l ≡ b → earlier m l ≡ false
+          go : (m : Link ℕ) → Joins (target_at sw k) l m → (b : Bool) → earlier m l ≡ b → earlier m l ≡ false
           go m c false e = e
           go m c true e =
-              let (j, at, _) = into-at (targetAt sw k) m (grouped-into c).1 in
+              let (j, at, _) = into-at (target_at sw k) m (grouped-into c).1 in
               ⊎_elim
               (λ (z : k ≡ j).
               let here : At sw k m = subst (λ (x : ℕ). At sw x m) (sym z) at in
               ap (λ (x : Link ℕ). earlier x l) (one_link s-sound k m l here a) ∙ strict.irreflexive l)
               (λ (t : Beside k j). absurd (alone j (within j m at) (m, l, at, a, e) (together-sym t)))
-              (grouped-together (targetAt sw k) k j c a at)
+              (grouped-together (target_at sw k) k j c a at)
 
       -- A link does not lead its group if an earlier link stands at a place whose owner is of the same class.
-      place-follows : (j k : ℕ) (l : Link ℕ) → At sw k l → Into s (targetAt sw k) l → Earlier earlier sw j k → Beside j k →
-          first (targetAt sw k) l ≡ l → ⊥
+      place-follows : (j k : ℕ) (l : Link ℕ) → At sw k l → Into s (target_at sw k) l → Earlier earlier sw j k → Beside j k →
+          first (target_at sw k) l ≡ l → ⊥
       place-follows j k l a i (m, l', b, a', less) t e =
           true-false (ap (earlier m) (one_link s-sound k l l' a a') ∙ less)
           (ap (earlier m) (sym e) ∙
-          lead-least operands lies earlier strict (targetAt sw k) l m i (together-grouped k j l m a b (together-sym t)))
+          lead-least operands lies earlier strict (target_at sw k) l m i (together-grouped k j l m a b (together-sym t)))
 
   module _ {earlier : Link ℕ → Link ℕ → Bool} (strict : StrictOrder earlier) {marks : List ℕ} (marked : Marked earlier sw gw map marks)
       (k : ℕ) (l : Link ℕ) (at : At sw k l) where
-    into : Into s (targetAt sw k) l
+    into : Into s (target_at sw k) l
     into = ((operands.lists-left.listed l.0).1 (from_member 0 (size sw) l.0 (omega arith) (omega (arith, at.place.inside))), at-link s-sound k l at)
 
     -- What the mark of a place says of the link there.
     pub data Says : Type 0 where
-      follows-it : get_or marks k 0 ≡ 0 → (lead eqb eqb s (from 0 (size sw)) g (from 0 (size gw)) over earlier (targetAt sw k) l ≡ l → ⊥) → Says
-      leads-covered : get_or marks k 0 ≡ 1 → Leader s (lead eqb eqb s (from 0 (size sw)) g (from 0 (size gw)) over earlier) (targetAt sw k) l →
+      follows-it : get_or marks k 0 ≡ 0 → (lead eqb eqb s (from 0 (size sw)) g (from 0 (size gw)) over earlier (target_at sw k) l ≡ l → ⊥) → Says
+      leads-covered : get_or marks k 0 ≡ 1 → Leader s (lead eqb eqb s (from 0 (size sw)) g (from 0 (size gw)) over earlier) (target_at sw k) l →
           (z : ℕ) → Goes z l → Says
-      leads_bare : get_or marks k 0 ≡ 2 → Leader s (lead eqb eqb s (from 0 (size sw)) g (from 0 (size gw)) over earlier) (targetAt sw k) l →
+      leads_bare : get_or marks k 0 ≡ 2 → Leader s (lead eqb eqb s (from 0 (size sw)) g (from 0 (size gw)) over earlier) (target_at sw k) l →
           ((z : ℕ) → Goes z l → ⊥) → Says
 
     pub mark-says : Says
     mark-says = go (marked.stands.each l.0 k at.place)
       where
-        grouping : Grouping sw gw map (rowsEnd gw) marked.owner marked.parent
+        grouping : Grouping sw gw map (rows_end gw) marked.owner marked.parent
         grouping = marked.grouping
 
         go : Mark marked.owner marked.parent (Earlier earlier sw) k (get_or marks k 0) → Says

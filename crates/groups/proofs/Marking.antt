@@ -8,9 +8,9 @@ use native.Mathlib.Decide.{ℕ_discrete, dec_lt}
 use native.Mathlib.Omega.{arith}
 use lib.ListN.{length, get_or, set, length-set}
 use lib.Seq.{get_or-set_same, get_or-set_other}
-use Rattle.layout.specs.Layout.{size, rowFrom, linksFrom, rowEnd, featureAt, Place}
+use Rattle.layout.specs.Layout.{size, row_from, links_from, row_end, feature_at, Place}
 use Rattle.layout.proofs.Order.{next_row, place-from, place-before, no_header}
-use Rattle.classes.specs.Forest.{Flat, rootOf}
+use Rattle.classes.specs.Forest.{Flat, root_of}
 use Rattle.groups.specs.Marks.{
   rank_at,
   Sooner,
@@ -35,7 +35,7 @@ module _ {nodes : ℕ} {parent : List ℕ} (flat : Flat nodes parent) {x : ℕ} 
   pub class_low : get_or parent x 0 < nodes
   class_low = omega (arith, flat.forest.down x small)
 
-  pub class-is : get_or parent x 0 ≡ rootOf parent x
+  pub class-is : get_or parent x 0 ≡ root_of parent x
   class-is = flat.near x small
 
 -- The order by rank, then by place.
@@ -94,7 +94,7 @@ module _ {s owner parent rank : List ℕ} {k : ℕ} {lead marks : List ℕ} (tur
   pub here-marked : k < length marks
   here-marked = omega (arith, m.long, here-inside)
 
-  pub here-known : featureAt s k < 64
+  pub here-known : feature_at s k < 64
   here-known = o.shaped.known v k p.inside p.low p.high
 
   -- Place k gets a mark, and no leader changes.
@@ -201,7 +201,7 @@ module _ {s owner parent rank : List ℕ} {k : ℕ} {lead marks : List ℕ} (tur
       pub met-marked : j < length marks
       met-marked = omega (arith, m.long, met-inside)
 
-      pub met-known : featureAt s j < 64
+      pub met-known : feature_at s j < 64
       met-known =
           let (u, q) = met-place in
           o.shaped.known u j q.inside q.low q.high
@@ -264,7 +264,7 @@ module _ {s owner parent rank : List ℕ} (o : Owned s owner parent) where
       }
 
   pub marking-start : {lead marks : List ℕ} → length marks ≡ length s → length lead ≡ 255 →
-      ((c : ℕ) → c < 255 → get_or lead c 0 ≡ 65535) → Marking s owner parent rank (rowFrom s 0) lead marks
+      ((c : ℕ) → c < 255 → get_or lead c 0 ≡ 65535) → Marking s owner parent rank (row_from s 0) lead marks
   marking-start long room clear =
       record {
         long = long;
@@ -274,14 +274,14 @@ module _ {s owner parent rank : List ℕ} (o : Owned s owner parent) where
       }
 
   -- When all links are met, the marks are those by rank, then by place.
-  pub marking-all : (v : ℕ) {lead marks : List ℕ} → Marking s owner parent rank (rowFrom s v) lead marks → v ≤ size s → size s ≤ v →
+  pub marking-all : (v : ℕ) {lead marks : List ℕ} → Marking s owner parent rank (row_from s v) lead marks → v ≤ size s → size s ≤ v →
       Marks (Sooner s rank) s owner parent marks
   marking-all v {lead} {marks} m low high = record { long = m.long; each = λ u k p. go u k p (stands u k p) }
     where
       stands : (u k : ℕ) → Place s u k → Standing s owner parent rank lead k (get_or marks k 0)
       stands u k p =
           m.each u k p
-          (subst (λ (i : ℕ). k < rowFrom s i) (omega arith) (place-before o.shaped p))
+          (subst (λ (i : ℕ). k < row_from s i) (omega arith) (place-before o.shaped p))
 
       alone : (k : ℕ) → get_or lead (class_at owner parent k) 0 ≡ k → (j : ℕ) → Sooner s rank j k → Together owner parent j k →
           Standing s owner parent rank lead j (get_or marks j 0) → ⊥
@@ -304,13 +304,13 @@ module _ {s owner parent rank : List ℕ} (o : Owned s owner parent) where
 pub record InRow (s owner parent rank : List ℕ) (v k : ℕ) (lead marks : List ℕ) : Type 0 where
   pub owned : Owned s owner parent
   pub inside : v < size s
-  pub low : linksFrom s v ≤ k
-  pub high : k ≤ rowEnd s v
+  pub low : links_from s v ≤ k
+  pub high : k ≤ row_end s v
   pub marking : Marking s owner parent rank k lead marks
 
 module _ {s owner parent rank : List ℕ} where
-  pub row-start : (v : ℕ) {lead marks : List ℕ} → Owned s owner parent → Marking s owner parent rank (rowFrom s v) lead marks → v < size s →
-      InRow s owner parent rank v (linksFrom s v) lead marks
+  pub row-start : (v : ℕ) {lead marks : List ℕ} → Owned s owner parent → Marking s owner parent rank (row_from s v) lead marks → v < size s →
+      InRow s owner parent rank v (links_from s v) lead marks
   row-start v o m h =
       record {
         owned = o;
@@ -321,16 +321,16 @@ module _ {s owner parent rank : List ℕ} where
       }
 
   module _ {v k : ℕ} {lead marks : List ℕ} (r : InRow s owner parent rank v k lead marks) where
-    pub row-place : k < rowEnd s v → Place s v k
+    pub row-place : k < row_end s v → Place s v k
     row-place h = record { inside = r.inside; low = r.low; high = h }
 
-    pub row_within : k < rowEnd s v → k < length owner
+    pub row_within : k < row_end s v → k < length owner
     row_within h = within r.owned (row-place h)
 
-    pub row_next : {lead' marks' : List ℕ} → k < rowEnd s v → Marking s owner parent rank (k + 1) lead' marks' →
+    pub row_next : {lead' marks' : List ℕ} → k < row_end s v → Marking s owner parent rank (k + 1) lead' marks' →
         InRow s owner parent rank v (k + 1) lead' marks'
     row_next h m = record { owned = r.owned; inside = r.inside; low = omega (arith, r.low); high = omega arith; marking = m }
 
-    pub row_done : rowEnd s v ≤ k → Marking s owner parent rank (rowFrom s (v + 1)) lead marks
+    pub row_done : row_end s v ≤ k → Marking s owner parent rank (row_from s (v + 1)) lead marks
     row_done h =
         subst (λ (i : ℕ). Marking s owner parent rank i lead marks) (omega (arith, r.high) ∙ next_row s v (v + 1) (omega arith)) r.marking

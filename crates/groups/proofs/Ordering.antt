@@ -9,22 +9,22 @@ use native.Mathlib.Decide.{ℕ_discrete, dec_lt}
 use native.Mathlib.Nat.{lt_irrefl, lt_trans}
 use native.Mathlib.Omega.{arith}
 use lib.ListN.{get_or}
-use Rattle.graphs.specs.Difference.{Link, StrictOrder, byNumber, place_in, byReading}
-use Rattle.graphs.proofs.Difference.ByNumber.{Before, by_number, by-number-order}
+use Rattle.graphs.specs.Difference.{Link, StrictOrder, by_number, place_in, by_reading}
+use Rattle.graphs.proofs.Difference.ByNumber.{Before, by_number_lem, by-number-order}
 use Rattle.graphs.proofs.Difference.ByReading.{BeforeIn, by-reading, by-reading-order, one_place}
-use Rattle.layout.specs.Layout.{featureAt, Shaped, Place}
+use Rattle.layout.specs.Layout.{feature_at, Shaped, Place}
 use Rattle.layout.proofs.Order.{earlier-row, place-rises}
 use Rattle.link_orders.specs.declared.LinkOrder.{LinkOrder}
 use Rattle.groups.specs.Marks.{At, Earlier, rank_at, Sooner, Owned, Mark, follows, leads, bare, Marks}
-use Rattle.link_orders.specs.LinkOrders.{earlierBy, Ranks}
+use Rattle.link_orders.specs.LinkOrders.{earlier_by, Ranks}
 
 -- The order that a call asks for.
 
-pub earlier-by-order : (order : LinkOrder) → StrictOrder (earlierBy order)
-unfolding earlierBy
+pub earlier-by-order : (order : LinkOrder) → StrictOrder (earlier_by order)
+unfolding earlier_by
 earlier-by-order order = go order.listed
   where
-    go : (b : Bool) → StrictOrder (cond b (byReading order.list) byNumber)
+    go : (b : Bool) → StrictOrder (cond b (by_reading order.list) by_number)
     go true = by-reading-order order.list
     go false = by-number-order
 
@@ -40,14 +40,14 @@ module _ {ws : List ℕ} (shaped : Shaped ws) {j k : ℕ} {l m : Link ℕ} (a : 
       omega (arith, earlier-row shaped l.0 m.0 j h (omega (arith, b.place.inside)) a.place.high, b.place.low)
   at_before (inr (e, h)) = go (dec_lt j k) (ℕ_discrete j k)
     where
-      less : featureAt ws j < featureAt ws k
+      less : feature_at ws j < feature_at ws k
       less = rw (a.feature, b.feature) h
 
       go : Dec (j < k) → Dec (j ≡ k) → j < k
       go (yes x) y = x
-      go (no x) (yes y) = absurd (lt_irrefl (featureAt ws k) (subst (λ (i : ℕ). featureAt ws i < featureAt ws k) y less))
+      go (no x) (yes y) = absurd (lt_irrefl (feature_at ws k) (subst (λ (i : ℕ). feature_at ws i < feature_at ws k) y less))
       go (no x) (no y) =
-          absurd (lt_irrefl (featureAt ws j) (lt_trans less (place-rises shaped (moved e) a.place (omega arith))))
+          absurd (lt_irrefl (feature_at ws j) (lt_trans less (place-rises shaped (moved e) a.place (omega arith))))
 
   before_at : j < k → Before l m
   before_at h = go (dec_lt l.0 m.0) (dec_lt m.0 l.0)
@@ -71,25 +71,25 @@ module _ {ws : List ℕ} (shaped : Shaped ws) {j k : ℕ} {l m : Link ℕ} (a : 
   module _ {order : LinkOrder} {rank : List ℕ} (ranks : Ranks order rank) where
     rank_left : rank_at ws rank j ≡ cond order.listed (place_in order.list l.1) 0
     rank_left =
-        ranks.each (featureAt ws j) (shaped.known l.0 j a.place.inside a.place.low a.place.high) ∙
+        ranks.each (feature_at ws j) (shaped.known l.0 j a.place.inside a.place.low a.place.high) ∙
         ap (λ (f : ℕ). cond order.listed (place_in order.list f) 0) a.feature
 
     rank_right : rank_at ws rank k ≡ cond order.listed (place_in order.list m.1) 0
     rank_right =
-        ranks.each (featureAt ws k) (shaped.known m.0 k b.place.inside b.place.low b.place.high) ∙
+        ranks.each (feature_at ws k) (shaped.known m.0 k b.place.inside b.place.low b.place.high) ∙
         ap (λ (f : ℕ). cond order.listed (place_in order.list f) 0) b.feature
 
     -- The order by ranks, then by places, is the order that a call asks for.
-    pub sooner-earlier : Sooner ws rank j k ↔ (earlierBy order l m ≡ true)
-    unfolding earlierBy
+    pub sooner-earlier : Sooner ws rank j k ↔ (earlier_by order l m ≡ true)
+    unfolding earlier_by
     sooner-earlier = go order.listed rank_left rank_right
       where
         go : (listed : Bool) → rank_at ws rank j ≡ cond listed (place_in order.list l.1) 0 →
             rank_at ws rank k ≡ cond listed (place_in order.list m.1) 0 →
-            Sooner ws rank j k ↔ (cond listed (byReading order.list) byNumber l m ≡ true)
+            Sooner ws rank j k ↔ (cond listed (by_reading order.list) by_number l m ≡ true)
         go false p q = (
-          λ h. (by_number l m).1 (before_at (earlier h)),
-          λ e. inr (p ∙ sym q, at_before ((by_number l m).0 e)),
+          λ h. (by_number_lem l m).1 (before_at (earlier h)),
+          λ e. inr (p ∙ sym q, at_before ((by_number_lem l m).0 e)),
         )
           where
             earlier : Sooner ws rank j k → j < k
@@ -109,18 +109,18 @@ module _ {ws : List ℕ} (shaped : Shaped ws) {j k : ℕ} {l m : Link ℕ} (a : 
 
 -- Marks by ranks are marks by the order that a call asks for.
 pub marks-by-order : {s owner parent : List ℕ} {order : LinkOrder} {rank marks : List ℕ} → Owned s owner parent → Ranks order rank →
-    Marks (Sooner s rank) s owner parent marks → Marks (Earlier (earlierBy order) s) s owner parent marks
+    Marks (Sooner s rank) s owner parent marks → Marks (Earlier (earlier_by order) s) s owner parent marks
 marks-by-order {s} {owner} {parent} {order} {rank} {marks} o ranks m =
     record { long = m.long; each = λ v k p. go v k p (m.each v k p) }
   where
-    at : {v k : ℕ} → Place s v k → At s k (v, featureAt s k)
+    at : {v k : ℕ} → Place s v k → At s k (v, feature_at s k)
     at p = record { place = p; feature = refl }
 
     go : (v k : ℕ) → Place s v k → Mark owner parent (Sooner s rank) k (get_or marks k 0) →
-        Mark owner parent (Earlier (earlierBy order) s) k (get_or marks k 0)
+        Mark owner parent (Earlier (earlier_by order) s) k (get_or marks k 0)
     go v k p (follows e j h w t) =
         let (u, q) = o.linked j h t.left in
-        follows e j h ((u, featureAt s j), (v, featureAt s k), at q, at p, (sooner-earlier o.shaped (at q) (at p) ranks).0 w) t
+        follows e j h ((u, feature_at s j), (v, feature_at s k), at q, at p, (sooner-earlier o.shaped (at q) (at p) ranks).0 w) t
     go v k p (leads e h alone) =
         leads e h λ j l w t. alone j l ((sooner-earlier o.shaped w.2 w.3 ranks).1 w.4) t
     go v k p (bare e h) = bare e h

@@ -2,14 +2,14 @@
 -- then a group alone. Else the mark is 1 where no link of the same group comes before the link, and 0 where one does.
 use Rattle.std.specs.Prelude.{◌≡◌, Bool, true, List, ◌⊎◌, ℕ, ◌≤◌, ◌<◌, length, get_or}
 use Rattle.graphs.specs.Difference.{Link}
-use Rattle.layout.specs.Layout.{longest, featureAt, Shaped, Place, rowsEnd}
-use Rattle.classes.specs.Forest.{Flat, rootOf}
+use Rattle.layout.specs.Layout.{longest, feature_at, Shaped, Place, rows_end}
+use Rattle.classes.specs.Forest.{Flat, root_of}
 use Rattle.cover.specs.Cover.{Grouping}
 
 -- the link l stands at place k
 pub record At (ws : List ℕ) (k : ℕ) (l : Link ℕ) : Type 0 where
   pub place : Place ws l.0 k
-  pub feature : featureAt ws k ≡ l.1
+  pub feature : feature_at ws k ≡ l.1
 
 -- the link at place j comes before the link at place k
 abbrev pub Earlier : (Link ℕ → Link ℕ → Bool) → List ℕ → ℕ → ℕ → Type 0
@@ -17,7 +17,7 @@ Earlier earlier s j k = (l : Link ℕ) × (m : Link ℕ) × At s j l × At s k m
 
 -- the rank of the feature at place k
 abbrev pub rank_at : List ℕ → List ℕ → ℕ → ℕ
-rank_at s rank k = get_or rank (featureAt s k) 0
+rank_at s rank k = get_or rank (feature_at s k) 0
 
 -- The link at place j comes before the link at place k by rank, then by place.
 abbrev pub Sooner : List ℕ → List ℕ → ℕ → ℕ → Type 0
@@ -41,7 +41,7 @@ pub record Owned (s owner parent : List ℕ) : Type 0 where
 module _ (owner parent : List ℕ) where
   -- the class of the owner of place k
   abbrev pub class_at : ℕ → ℕ
-  class_at k = rootOf parent (get_or owner k 0)
+  class_at k = root_of parent (get_or owner k 0)
 
   -- places j and k have owners of one class
   pub record Together (j k : ℕ) : Type 0 where
@@ -81,5 +81,5 @@ pub record Marking (s owner parent rank : List ℕ) (bound : ℕ) (lead marks : 
 pub record Marked (earlier : Link ℕ → Link ℕ → Bool) (s g map marks : List ℕ) : Type 0 where
   pub owner : List ℕ
   pub parent : List ℕ
-  pub grouping : Grouping s g map (rowsEnd g) owner parent
+  pub grouping : Grouping s g map (rows_end g) owner parent
   pub stands : Marks (Earlier earlier s) s owner parent marks

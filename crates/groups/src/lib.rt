@@ -7,7 +7,7 @@ ghost use Rattle.std.specs.Prelude.{◌≡◌, ℕ, ◌+◌, ◌<◌, length};
 ghost use Rattle.layout.specs.Layout.{Place};
 ghost use Rattle.cover.specs.Cover.{Lying, Unowned};
 ghost use Rattle.groups.specs.Marks.{Marked, Marking, Marks, Owned, Sooner};
-ghost use Rattle.link_orders.specs.LinkOrders.{Fitting, earlierBy};
+ghost use Rattle.link_orders.specs.LinkOrders.{Fitting, earlier_by};
 
 use classes::forest;
 use link_orders::LinkOrder;
@@ -93,7 +93,7 @@ pub fn mark_links<'a>(
     marks: &mut [u8],
 )
     requires { Lying s.now g.now map.now × Fitting order × (length marks.old ≡ length s.now) }
-    ensures { Marked (earlierBy order) s.now g.now map.now marks.new }
+    ensures { Marked (earlier_by order) s.now g.now map.now marks.new }
 {
     let words = s.len();
     if words <= layout::SHORT {
@@ -115,7 +115,7 @@ fn mark_owned<'a>(
 )
     requires lying { Lying s.now g.now map.now × Fitting order }
     requires unowned { Unowned s.now owner.old × (length marks.old ≡ length s.now) }
-    ensures { Marked (earlierBy order) s.now g.now map.now marks.new }
+    ensures { Marked (earlier_by order) s.now g.now map.now marks.new }
 {
     let mut parent = [0u16; 510];
     let nodes = g[0] as usize;

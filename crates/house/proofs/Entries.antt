@@ -24,8 +24,8 @@ listed-from f i (suc k) zero l = ap f (sym (add-zero i))
 listed-from f i (suc k) (suc j) l = listed-from f (suc i) k j (le_of_suc-le-suc l) ∙ ap f (suc-add i j ∙ sym (add-suc i j))
 
 -- entry j of a listed function is the function at j
-pub getD-listed : (f : ℕ → ℕ) (k j : ℕ) → j < k → get_or (listed f 0 k) j 0 ≡ f j
-getD-listed f k j l = listed-from f 0 k j l ∙ ap f (zero-add j)
+pub get_or-listed : (f : ℕ → ℕ) (k j : ℕ) → j < k → get_or (listed f 0 k) j 0 ≡ f j
+get_or-listed f k j l = listed-from f 0 k j l ∙ ap f (zero-add j)
 
 -- every entry, with its place counted from i, passes
 abbrev pub passes : (ℕ → ℕ → Bool) → ℕ → List ℕ → Bool
@@ -46,12 +46,12 @@ pub passes_at : (test : ℕ → ℕ → Bool) (xs : List ℕ) → passes test 0 
 passes_at test xs h k l = subst (λ (m : ℕ). test m (get_or xs k 0) ≡ true) (zero-add k) (passes-from test xs 0 h k l)
 
 -- the rule of the meets at one entry
-abbrev pub isEntry : ℕ → ℕ → Bool
-isEntry k x = eqb x (entry_of k)
+abbrev pub is_entry : ℕ → ℕ → Bool
+is_entry k x = eqb x (entry_of k)
 
 -- 4,096 entries that pass are the meets
-pub rule-meets : (xs : List ℕ) → passes isEntry 0 xs ≡ true → length xs ≡ 4096 → xs ≡ meets
+pub rule-meets : (xs : List ℕ) → passes is_entry 0 xs ≡ true → length xs ≡ 4096 → xs ≡ meets
 unfolding meets
 rule-meets xs h e =
     ext_get_or 0 xs meets (e ∙ sym (length-listed entry_of 0 4096)) λ k l.
-    eqb-true (get_or xs k 0) (entry_of k) (passes_at isEntry xs h k l) ∙ sym (getD-listed entry_of 4096 k (omega arith))
+    eqb-true (get_or xs k 0) (entry_of k) (passes_at is_entry xs h k l) ∙ sym (get_or-listed entry_of 4096 k (omega arith))

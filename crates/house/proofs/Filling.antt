@@ -10,7 +10,7 @@ use lib.Seq.{sets, sets-eq}
 use borrow.Author.Tests.{le-leb, lt-leb}
 use Rattle.lattice.specs.Words.{word}
 use Rattle.lattice.proofs.WordLaws.{word_below}
-use Rattle.house.specs.House.{listed, byte_of, houseTable, tabled}
+use Rattle.house.specs.House.{listed, byte_of, house_table, tabled}
 use Rattle.house.proofs.Entries.{length-listed}
 
 -- eight bits are a byte
@@ -24,8 +24,8 @@ byte_fits p w j l s e =
 abbrev pub left : List ℕ → ℕ → List ℕ
 left out k = sets out k (listed byte_of k (512 - k))
 
-pub fill_start : (out : List ℕ) → sets out 0 houseTable ≡ left out 0
-unfolding houseTable
+pub fill_start : (out : List ℕ) → sets out 0 house_table ≡ left out 0
+unfolding house_table
 fill_start out = refl
 
 pub fill_step : {all : List ℕ} (out : List ℕ) (k v : ℕ) → k < 512 → v ≡ byte_of k → all ≡ left out k → all ≡ left (set out k v) (k + 1)
@@ -36,18 +36,18 @@ fill_step out k v l e h =
     ∙ ap (λ (x : ℕ). sets (set out k x) (suc k) (listed byte_of (suc k) (512 - (k + 1)))) (sym e)
     ∙ ap (λ (n : ℕ). sets (set out k v) n (listed byte_of n (512 - (k + 1)))) (sym (add-one k))
 
-pub length-table : length houseTable ≡ 512
-unfolding houseTable
+pub length-table : length house_table ≡ 512
+unfolding house_table
 length-table = length-listed byte_of 0 512
 
-pub fill_end : (old out : List ℕ) (k : ℕ) → 512 ≤ k → 512 ≤ length old → sets old 0 houseTable ≡ left out k → out ≡ tabled old
+pub fill_end : (old out : List ℕ) (k : ℕ) → 512 ≤ k → 512 ≤ length old → sets old 0 house_table ≡ left out k → out ≡ tabled old
 unfolding listed tabled
 fill_end old out k l room h =
     let none : 512 - k ≡ 0 = omega arith in
     let done : left out k ≡ out = ap (λ (n : ℕ). sets out k (listed byte_of k n)) none in
-    let size : 0 + length houseTable ≡ 512 = omega (arith, length-table) in
-    sym done ∙ sym h ∙ sets-eq houseTable old 0 (omega (arith, length-table))
-    ∙ ap (λ (n : ℕ). houseTable ++ drop n old) size ∙ sym (rw (le-leb 512 (length old) room))
+    let size : 0 + length house_table ≡ 512 = omega (arith, length-table) in
+    sym done ∙ sym h ∙ sets-eq house_table old 0 (omega (arith, length-table))
+    ∙ ap (λ (n : ℕ). house_table ++ drop n old) size ∙ sym (rw (le-leb 512 (length old) room))
 
 -- an output that is too short is left as it is
 pub fill_none : (old : List ℕ) → length old < 512 → old ≡ tabled old

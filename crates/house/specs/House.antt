@@ -50,8 +50,8 @@ abbrev pub byte_of : ℕ → ℕ
 byte_of k = word 8 λ j. under (8 * (k % 8) + j) (k / 8)
 
 -- the 512 bytes of the type table, for n = 64
-unfoldable pub houseTable : List ℕ
-houseTable = listed byte_of 0 512
+unfoldable pub house_table : List ℕ
+house_table = listed byte_of 0 512
 
 -- whether an output has room for the type table
 abbrev pub roomy : List ℕ → Bool
@@ -59,12 +59,12 @@ roomy out = leb 512 (length out)
 
 -- What the output holds at the end: the bytes of the type table and behind them its own, or all its own where the table does not fit.
 unfoldable pub tabled : List ℕ → List ℕ
-tabled out = cond (roomy out) (houseTable ++ drop 512 out) out
+tabled out = cond (roomy out) (house_table ++ drop 512 out) out
 
 -- an answer and the output beside it
-abbrev pub answerWith : Bool → List ℕ → Bool × List ℕ
-answerWith answer out = (answer, out)
+abbrev pub answer_with : Bool → List ℕ → Bool × List ℕ
+answer_with answer out = (answer, out)
 
 -- what asking for the table answers and leaves in the output
 abbrev pub filling : List ℕ → Bool × List ℕ
-filling out = answerWith (roomy out) (tabled out)
+filling out = answer_with (roomy out) (tabled out)

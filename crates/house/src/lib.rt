@@ -3,7 +3,7 @@
 // other's. `meets` has the meets of all pairs as a constant, and `fill_table` writes the type table that states the order. The crate knows
 // what a type table is, and nothing of records.
 ghost use Rattle.std.specs.Prelude.{◌≡◌, ◌<◌};
-ghost use Rattle.house.specs.House.{under, byte_of, answerWith, filling};
+ghost use Rattle.house.specs.House.{under, byte_of, answer_with, filling};
 
 pub mod meets;
 
@@ -38,7 +38,7 @@ fn byte_at(k: usize) -> u8
 // Writes the 512 bytes of the type table, for n = 64, and answers whether the output has room for them. The output's bytes past the
 // table stay as they were; where there is no room, all of them do.
 pub fn fill_table(out: &mut [u8]) -> bool
-    ensures { answerWith result out.new ≡ filling out.old }
+    ensures { answer_with result out.new ≡ filling out.old }
 {
     if out.len() < 512 {
         return false;

@@ -11,7 +11,7 @@ use Rattle.house.specs.House.{meets}
 use Rattle.house.proofs.Theorems.{meets-types}
 use Rattle.text.specs.Text.{Puts, decimal}
 use Rattle.text.proofs.Texts.{puts_then, puts-byte, decimal-one, decimal-length}
-use Rattle.house_types.specs.Text.{after, textTo, text_of}
+use Rattle.house_types.specs.Text.{after, text_to, text_of}
 
 -- The first k entries are put, and `at` is the next place.
 pub record Printing (old entries new : List ℕ) (at k : ℕ) : Type 0 where
@@ -20,10 +20,10 @@ pub record Printing (old entries new : List ℕ) (at k : ℕ) : Type 0 where
   pub room : 12288 ≤ length old
   pub size : length new ≡ length old
   pub is : entries ≡ meets
-  pub put : Puts (textTo entries k) 0 old at new
+  pub put : Puts (text_to entries k) 0 old at new
 
 pub print-start : (old entries : List ℕ) → 12288 ≤ length old → entries ≡ meets → Printing old entries old 0 0
-unfolding textTo
+unfolding text_to
 print-start old entries h e = record {
   within = omega arith;
   short = omega arith;
@@ -59,7 +59,7 @@ module _ {old entries new : List ℕ} {at k : ℕ} (p : Printing old entries new
         (omega (arith, digits, d.next-is, same_size, p.short, p.room, p.size), omega (arith, digits, d.next-is, p.short))
 
     pub print-step : (v : ℕ) → v ≡ after k → Printing old entries (set part next v) (next + 1) (k + 1)
-    unfolding textTo
+    unfolding text_to
     print-step v e = record {
       within = omega arith;
       short = omega (arith, digits, d.next-is, p.short);
@@ -68,7 +68,7 @@ module _ {old entries new : List ℕ} {at k : ℕ} (p : Printing old entries new
       is = p.is;
       put =
           subst (λ (text : List ℕ). Puts text 0 old (next + 1) (set part next v))
-          (ap (λ (x : ℕ). textTo entries k ++ (decimal (get_or entries k 0) ++ (x ∷ []))) e ∙ ap (textTo entries) (sym (add-one k)))
+          (ap (λ (x : ℕ). text_to entries k ++ (decimal (get_or entries k 0) ++ (x ∷ []))) e ∙ ap (text_to entries) (sym (add-one k)))
           (puts_then p.put (puts_then d (puts-byte next part v)));
     }
 
@@ -76,4 +76,4 @@ module _ {old entries new : List ℕ} {at k : ℕ} (p : Printing old entries new
 pub print-end : {old entries new : List ℕ} {at k : ℕ} → Printing old entries new at k → 4096 ≤ k → (at ≤ 12288) × Puts (text_of meets) 0 old at new
 print-end {old} {entries} {new} {at} {k} p l =
     let last : k ≡ 4096 = omega (arith, p.within) in
-    (omega (arith, p.within, p.short), subst (λ (text : List ℕ). Puts text 0 old at new) (ap (textTo entries) last ∙ ap text_of p.is) p.put)
+    (omega (arith, p.within, p.short), subst (λ (text : List ℕ). Puts text 0 old at new) (ap (text_to entries) last ∙ ap text_of p.is) p.put)

@@ -7,10 +7,10 @@ abbrev pub after : ℕ → ℕ
 after k = cond (eqb (k % 64) 63) 10 32
 
 -- The first k entries, each with the byte behind it.
-unfoldable pub textTo : List ℕ → ℕ → List ℕ
-textTo xs zero = []
-textTo xs (suc k) = textTo xs k ++ (decimal (get_or xs k 0) ++ (after k ∷ []))
+unfoldable pub text_to : List ℕ → ℕ → List ℕ
+text_to xs zero = []
+text_to xs (suc k) = text_to xs k ++ (decimal (get_or xs k 0) ++ (after k ∷ []))
 
 -- the table of 64 lines with 64 numbers each
 abbrev pub text_of : List ℕ → List ℕ
-text_of xs = textTo xs 4096
+text_of xs = text_to xs 4096

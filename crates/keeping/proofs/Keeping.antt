@@ -13,11 +13,11 @@ use Rattle.graphs.specs.Rows.{from}
 use Rattle.graphs.specs.Large.{Distinct}
 use Rattle.graphs.proofs.Lists.{distinct-bound, from_member, length_from}
 use Rattle.graphs.proofs.Search.{true-false}
-use Rattle.lattice.specs.Labels.{tableLabels}
-use Rattle.layout.specs.Layout.{longest, labelFrom, size, rowFrom, linksFrom, rowEnd, targetAt, Node, Shaped, Place, rowsEnd}
+use Rattle.lattice.specs.Labels.{table_labels}
+use Rattle.layout.specs.Layout.{longest, label_from, size, row_from, links_from, row_end, target_at, Node, Shaped, Place, rows_end}
 use Rattle.layout.proofs.Order.{next_row, place-from, no_header}
 use Rattle.visits.specs.Walks.{Leads as Linking, Reaches, TargetsFirst, Sorts}
-use Rattle.keeping.specs.Keeping.{Grown, Leads, Cause, several, alone, Entering, Enters, Untop, Stays, Onward, Markable, Sorted, Settled, Why, isRoot, caused, untop, onward, Keeps}
+use Rattle.keeping.specs.Keeping.{Grown, Leads, Cause, several, alone, Entering, Enters, Untop, Stays, Onward, Markable, Sorted, Settled, Why, is_root, caused, untop, onward, Keeps}
 
 -- Growing.
 
@@ -121,19 +121,19 @@ module _ (s marks : List ℕ) (k : ℕ) where
     second : (get_or marks k 0 ≡ 0 → ⊥) → Leads s marks k v → Newly v
     barely : get_or marks k 0 ≡ 2 → Newly v
 
-  cause-split : (v : ℕ) → Cause s marks (k + 1) v → Cause s marks k v ⊎ ((v ≡ targetAt s k) × Newly v)
+  cause-split : (v : ℕ) → Cause s marks (k + 1) v → Cause s marks k v ⊎ ((v ≡ target_at s k) × Newly v)
   unfolding earlier
   cause-split v (several a b) =
       ⊎_elim
       (λ (e : a.place ≡ k).
       inr (
-        sym a.enters ∙ ap (targetAt s) e,
+        sym a.enters ∙ ap (target_at s) e,
         second (λ z. a.leading (ap (λ (x : ℕ). get_or marks x 0) e ∙ z)) (subst (λ (i : ℕ). Leads s marks i v) e b),
       ))
       (λ (h : a.place < k). inl (several (earlier a h) b)) (leads-split a)
   cause-split v (alone a q) =
       ⊎_elim
-      (λ (e : a.place ≡ k). inr (sym a.enters ∙ ap (targetAt s) e, barely (ap (λ (x : ℕ). get_or marks x 0) (sym e) ∙ q)))
+      (λ (e : a.place ≡ k). inr (sym a.enters ∙ ap (target_at s) e, barely (ap (λ (x : ℕ). get_or marks x 0) (sym e) ∙ q)))
       (λ (h : a.place < k). inl (alone (earlier a h) q)) (leads-split a)
 
   wider : (v : ℕ) → Cause s marks k v → Cause s marks (k + 1) v
@@ -150,7 +150,7 @@ module _ (s marks : List ℕ) (k : ℕ) where
         }
       where
         narrower : (v : ℕ) → Cause s marks (k + 1) v → Cause s marks k v
-        narrower v c = ⊎_elim (λ (x : Cause s marks k v). x) (λ (x : (v ≡ targetAt s k) × Newly v). none x.1) (cause-split v c)
+        narrower v c = ⊎_elim (λ (x : Cause s marks k v). x) (λ (x : (v ≡ target_at s k) × Newly v). none x.1) (cause-split v c)
           where
             none : Newly v → Cause s marks k v
             none (second d x) = absurd (d z)
@@ -161,12 +161,12 @@ module _ (s marks : List ℕ) (k : ℕ) where
             ⊎_elim (λ (d : a.place ≡ k). absurd (a.leading (ap (λ (x : ℕ). get_or marks x 0) d ∙ z)))
             (λ (h : a.place < k). earlier a h) (leads-split a)
 
-    module _ {w : ℕ} (link : Place s w k) (leading : get_or marks k 0 ≡ 0 → ⊥) (small : targetAt s k < 255) where
-      here : {l : ℕ} → k < l → Leads s marks l (targetAt s k)
+    module _ {w : ℕ} (link : Place s w k) (leading : get_or marks k 0 ≡ 0 → ⊥) (small : target_at s k < 255) where
+      here : {l : ℕ} → k < l → Leads s marks l (target_at s k)
       here h = record { node = w; place = k; link = link; before = h; leading = leading; enters = refl }
 
       entering-with : {keep' : List ℕ} → Grown (Cause s marks (k + 1)) keep₀ keep' →
-          Entering s marks (k + 1) keep₀ keep' (set entered (targetAt s k) 1)
+          Entering s marks (k + 1) keep₀ keep' (set entered (target_at s k) 1)
       entering-with g =
           record {
             grown = g;
@@ -176,7 +176,7 @@ module _ (s marks : List ℕ) (k : ℕ) where
           }
         where
           u : ℕ
-          u = targetAt s k
+          u = target_at s k
 
           met : (v : ℕ) → v < 255 → get_or (set entered u 1) v 0 ≡ 1 → Dec (v ≡ u) → Leads s marks (k + 1) v
           met v h x (yes d) = subst (λ (i : ℕ). Leads s marks (k + 1) i) (sym d) (here (omega arith))
@@ -188,36 +188,36 @@ module _ (s marks : List ℕ) (k : ℕ) where
           unmet v h x (no d) =
               get_or-set_other entered u v 1 0 d ∙
               e.unmet v h
-              (⊎_elim (λ (q : x.place ≡ k). absurd (d (sym x.enters ∙ ap (targetAt s) q)))
+              (⊎_elim (λ (q : x.place ≡ k). absurd (d (sym x.enters ∙ ap (target_at s) q)))
               (λ (q : x.place < k). earlier x q) (leads-split x))
 
-      split : (v : ℕ) → Cause s marks (k + 1) v → Cause s marks k v ⊎ (v ≡ targetAt s k)
+      split : (v : ℕ) → Cause s marks (k + 1) v → Cause s marks k v ⊎ (v ≡ target_at s k)
       split v c =
-          ⊎_elim (λ (x : Cause s marks k v). inl x) (λ (x : (v ≡ targetAt s k) × Newly v). inr x.0) (cause-split v c)
+          ⊎_elim (λ (x : Cause s marks k v). inl x) (λ (x : (v ≡ target_at s k) × Newly v). inr x.0) (cause-split v c)
 
       pub entering-bare : get_or marks k 0 ≡ 2 →
-          Entering s marks (k + 1) keep₀ (set keep (targetAt s k) 1) (set entered (targetAt s k) 1)
+          Entering s marks (k + 1) keep₀ (set keep (target_at s k) 1) (set entered (target_at s k) 1)
       unfolding here
-      entering-bare b = entering-with (grown-more e.grown wider (targetAt s k) small (alone (here (omega arith)) b) split)
+      entering-bare b = entering-with (grown-more e.grown wider (target_at s k) small (alone (here (omega arith)) b) split)
 
-      pub entering-again : get_or entered (targetAt s k) 0 ≡ 1 →
-          Entering s marks (k + 1) keep₀ (set keep (targetAt s k) 1) (set entered (targetAt s k) 1)
+      pub entering-again : get_or entered (target_at s k) 0 ≡ 1 →
+          Entering s marks (k + 1) keep₀ (set keep (target_at s k) 1) (set entered (target_at s k) 1)
       unfolding here
       entering-again b =
           entering-with
-          (grown-more e.grown wider (targetAt s k) small
-          (several (here (omega arith)) (e.met (targetAt s k) small b)) split)
+          (grown-more e.grown wider (target_at s k) small
+          (several (here (omega arith)) (e.met (target_at s k) small b)) split)
 
-      pub entering-first : (get_or marks k 0 ≡ 2 → ⊥) → (get_or entered (targetAt s k) 0 ≡ 1 → ⊥) →
-          Entering s marks (k + 1) keep₀ keep (set entered (targetAt s k) 1)
+      pub entering-first : (get_or marks k 0 ≡ 2 → ⊥) → (get_or entered (target_at s k) 0 ≡ 1 → ⊥) →
+          Entering s marks (k + 1) keep₀ keep (set entered (target_at s k) 1)
       entering-first b d = entering-with (grown-stay e.grown wider narrower)
         where
           narrower : (v : ℕ) → Cause s marks (k + 1) v → Cause s marks k v
           narrower v c =
-              ⊎_elim (λ (x : Cause s marks k v). x) (λ (x : (v ≡ targetAt s k) × Newly v). none x.0 x.1) (cause-split v c)
+              ⊎_elim (λ (x : Cause s marks k v). x) (λ (x : (v ≡ target_at s k) × Newly v). none x.0 x.1) (cause-split v c)
             where
-              none : v ≡ targetAt s k → Newly v → Cause s marks k v
-              none q (second x y) = absurd (d (e.unmet (targetAt s k) small (subst (λ (i : ℕ). Leads s marks k i) q y)))
+              none : v ≡ target_at s k → Newly v → Cause s marks k v
+              none q (second x y) = absurd (d (e.unmet (target_at s k) small (subst (λ (i : ℕ). Leads s marks k i) q y)))
               none q (barely x) = absurd (b x)
 
 -- The loops over the rows.
@@ -227,20 +227,20 @@ pub record InRow (s marks : List ℕ) (v k : ℕ) (keep₀ entered₀ keep enter
   pub ready : Markable s marks keep
   pub entered-long : length entered ≡ 255
   pub inside : v < size s
-  pub low : linksFrom s v ≤ k
-  pub high : k ≤ rowEnd s v
+  pub low : links_from s v ≤ k
+  pub high : k ≤ row_end s v
   pub first : List ℕ
-  pub begun : Entering s marks (linksFrom s v) first keep₀ entered₀
-  pub entering : (start : List ℕ) → Entering s marks (linksFrom s v) start keep₀ entered₀ → Entering s marks k start keep entered
+  pub begun : Entering s marks (links_from s v) first keep₀ entered₀
+  pub entering : (start : List ℕ) → Entering s marks (links_from s v) start keep₀ entered₀ → Entering s marks k start keep entered
 
 -- What the code reads at a place of a row.
 pub record PlaceKnown (s : List ℕ) (v k : ℕ) : Type 0 where
   pub link : Place s v k
   pub few : k < longest
   pub within : k < length s
-  pub target : targetAt s k < 255
+  pub target : target_at s k < 255
 
-pub place-known : {s marks keep : List ℕ} {v k : ℕ} → Markable s marks keep → v < size s → linksFrom s v ≤ k → k < rowEnd s v → PlaceKnown s v k
+pub place-known : {s marks keep : List ℕ} {v k : ℕ} → Markable s marks keep → v < size s → links_from s v ≤ k → k < row_end s v → PlaceKnown s v k
 place-known {v = v} {k = k} r h low high =
     record {
       link = record { inside = h; low = low; high = high };
@@ -255,7 +255,7 @@ markable-with r long = record { sound = r.sound; small = r.small; short = r.shor
 
 module _ {s marks : List ℕ} where
   pub entering-start : {keep entered : List ℕ} → Markable s marks keep → length entered ≡ 255 → ((v : ℕ) → v < 255 → get_or entered v 0 ≡ 0) →
-      Entering s marks (rowFrom s 0) keep keep entered
+      Entering s marks (row_from s 0) keep keep entered
   entering-start {keep} {entered} r room clear =
       record {
         grown = grown-start r.keep-long none;
@@ -264,17 +264,17 @@ module _ {s marks : List ℕ} where
         unmet = λ v h x. absurd (omega (arith, x.before, place-from r.sound.shaped x.link));
       }
     where
-      none : (v : ℕ) → Cause s marks (rowFrom s 0) v → ⊥
+      none : (v : ℕ) → Cause s marks (row_from s 0) v → ⊥
       none v (several a b) = omega (arith, a.before, place-from r.sound.shaped a.link)
       none v (alone a e) = omega (arith, a.before, place-from r.sound.shaped a.link)
 
   -- `Entering` moves past the header of a row.
-  pub row-entering : (v : ℕ) {keep₀ keep entered : List ℕ} → Shaped s → v < size s → Entering s marks (rowFrom s v) keep₀ keep entered →
-      Entering s marks (linksFrom s v) keep₀ keep entered
+  pub row-entering : (v : ℕ) {keep₀ keep entered : List ℕ} → Shaped s → v < size s → Entering s marks (row_from s v) keep₀ keep entered →
+      Entering s marks (links_from s v) keep₀ keep entered
   row-entering v shaped h e = entering-moved s marks (omega arith) (λ u j p below. no_header shaped v h p below) e
 
-  pub row-start : (v : ℕ) {keep₀ keep entered : List ℕ} → Markable s marks keep → v < size s → Entering s marks (rowFrom s v) keep₀ keep entered →
-      InRow s marks v (linksFrom s v) keep entered keep entered
+  pub row-start : (v : ℕ) {keep₀ keep entered : List ℕ} → Markable s marks keep → v < size s → Entering s marks (row_from s v) keep₀ keep entered →
+      InRow s marks v (links_from s v) keep entered keep entered
   row-start v {keep₀} r h e =
       record {
         ready = r;
@@ -288,10 +288,10 @@ module _ {s marks : List ℕ} where
       }
 
   module _ {v k : ℕ} {keep₀ entered₀ keep entered : List ℕ} (i : InRow s marks v k keep₀ entered₀ keep entered) where
-    pub row-place : k < rowEnd s v → PlaceKnown s v k
+    pub row-place : k < row_end s v → PlaceKnown s v k
     row-place h = place-known i.ready i.inside i.low h
 
-    pub row_next : {keep' entered' : List ℕ} → k < rowEnd s v → Enters s marks k keep entered keep' entered' →
+    pub row_next : {keep' entered' : List ℕ} → k < row_end s v → Enters s marks k keep entered keep' entered' →
         InRow s marks v (k + 1) keep₀ entered₀ keep' entered'
     row_next h e =
         let new = e i.first (i.entering i.first i.begun) in
@@ -306,19 +306,19 @@ module _ {s marks : List ℕ} where
           entering = λ start x. e start (i.entering start x);
         }
 
-    pub row_done : {start : List ℕ} → rowEnd s v ≤ k → Entering s marks (rowFrom s v) start keep₀ entered₀ →
-        Entering s marks (rowFrom s (v + 1)) start keep entered
+    pub row_done : {start : List ℕ} → row_end s v ≤ k → Entering s marks (row_from s v) start keep₀ entered₀ →
+        Entering s marks (row_from s (v + 1)) start keep entered
     row_done {start} h e =
         subst (λ (j : ℕ). Entering s marks j start keep entered) (ends ∙ next_row s v (v + 1) (omega arith))
         (i.entering start (row-entering v i.ready.sound.shaped i.inside e))
       where
-        ends : k ≡ rowEnd s v
+        ends : k ≡ row_end s v
         ends = omega (arith, i.high)
 
-  pub entering-done : (v : ℕ) {keep₀ keep entered : List ℕ} → Entering s marks (rowFrom s v) keep₀ keep entered → v ≤ size s → size s ≤ v →
-      Grown (Cause s marks (rowsEnd s)) keep₀ keep
+  pub entering-done : (v : ℕ) {keep₀ keep entered : List ℕ} → Entering s marks (row_from s v) keep₀ keep entered → v ≤ size s → size s ≤ v →
+      Grown (Cause s marks (rows_end s)) keep₀ keep
   entering-done v {keep₀} {keep} e h l =
-      subst (λ (i : ℕ). Grown (Cause s marks (rowFrom s i)) keep₀ keep) (omega arith) e.grown
+      subst (λ (i : ℕ). Grown (Cause s marks (row_from s i)) keep₀ keep) (omega arith) e.grown
 
 -- Labels that are not top.
 
@@ -326,18 +326,18 @@ module _ (n : ℕ) (t labels : List ℕ) (k : ℕ) {keep₀ keep : List ℕ} (g 
   untop-more : (v : ℕ) → Untop n t labels k v → Untop n t labels (k + 1) v
   untop-more v (h, e) = (omega arith, e)
 
-  pub untop-yes : k < 255 → (tableLabels n t).le (tableLabels n t).top (labelFrom labels (2 * k)) ≡ false → Grown (Untop n t labels (k + 1)) keep₀ (set keep k 1)
+  pub untop-yes : k < 255 → (table_labels n t).le (table_labels n t).top (label_from labels (2 * k)) ≡ false → Grown (Untop n t labels (k + 1)) keep₀ (set keep k 1)
   untop-yes h e = grown-more g untop-more k h (omega arith, e) (λ v x. go v x (ℕ_discrete v k))
     where
       go : (v : ℕ) → Untop n t labels (k + 1) v → Dec (v ≡ k) → Untop n t labels k v ⊎ (v ≡ k)
       go v x (yes d) = inr d
       go v (l, x) (no d) = inl (omega arith, x)
 
-  pub untop-no : (tableLabels n t).le (tableLabels n t).top (labelFrom labels (2 * k)) ≡ true → Grown (Untop n t labels (k + 1)) keep₀ keep
+  pub untop-no : (table_labels n t).le (table_labels n t).top (label_from labels (2 * k)) ≡ true → Grown (Untop n t labels (k + 1)) keep₀ keep
   untop-no e = grown-stay g untop-more (λ v x. go v x (ℕ_discrete v k))
     where
       go : (v : ℕ) → Untop n t labels (k + 1) v → Dec (v ≡ k) → Untop n t labels k v
-      go v (l, x) (yes d) = true-false (ap (λ (i : ℕ). (tableLabels n t).le (tableLabels n t).top (labelFrom labels (2 * i))) d ∙ e) x
+      go v (l, x) (yes d) = true-false (ap (λ (i : ℕ). (table_labels n t).le (table_labels n t).top (label_from labels (2 * i))) d ∙ e) x
       go v (l, x) (no d) = (omega arith, x)
 
 pub untop-start : (n : ℕ) (t labels : List ℕ) {keep : List ℕ} → length keep ≡ 255 → Grown (Untop n t labels 0) keep keep
@@ -464,14 +464,14 @@ module _ {ws order : List ℕ} (s : Sorted ws order) {i : ℕ} (inside : i < siz
         go (no n) = omega arith
 
     -- A link of a node that is done does not lead to u.
-    elsewhere : (v k : ℕ) → v < size ws → s.place v < i + 1 → linksFrom ws v ≤ k → k < rowEnd ws v → targetAt ws k ≡ u → ⊥
+    elsewhere : (v k : ℕ) → v < size ws → s.place v < i + 1 → links_from ws v ≤ k → k < row_end ws v → target_at ws k ≡ u → ⊥
     unfolding u
     elsewhere v k h l low high e =
         let link : Linking ws v (get_or order i 0) =
         record { inside = h; place = k; low = low; high = high; target_is = e } in
         omega (arith, s.targets-first.earlier v (get_or order i 0) link, order-place)
 
-    pub settled-no : (Onward ws marks keep (linksFrom ws (get_or order i 0)) (rowEnd ws (get_or order i 0)) → ⊥) →
+    pub settled-no : (Onward ws marks keep (links_from ws (get_or order i 0)) (row_end ws (get_or order i 0)) → ⊥) →
         Settled (λ v. s.place v < i + 1) ws marks keep₀ keep
     unfolding u
     settled-no none =
@@ -482,13 +482,13 @@ module _ {ws order : List ℕ} (s : Sorted ws order) {i : ℕ} (inside : i < siz
           why = g.why;
         }
       where
-        found : (v : ℕ) → v < size ws → s.place v < i + 1 → Onward ws marks keep (linksFrom ws v) (rowEnd ws v) → Dec (v ≡ u) →
+        found : (v : ℕ) → v < size ws → s.place v < i + 1 → Onward ws marks keep (links_from ws v) (row_end ws v) → Dec (v ≡ u) →
             get_or keep v 0 ≡ 1
         found v h l o (yes e) =
-            absurd (none (subst (λ (x : ℕ). Onward ws marks keep (linksFrom ws x) (rowEnd ws x)) e o))
+            absurd (none (subst (λ (x : ℕ). Onward ws marks keep (links_from ws x) (row_end ws x)) e o))
         found v h l o (no d) = g.found v h (other v h l d) o
 
-    pub settled-yes : Onward ws marks keep (linksFrom ws (get_or order i 0)) (rowEnd ws (get_or order i 0)) →
+    pub settled-yes : Onward ws marks keep (links_from ws (get_or order i 0)) (row_end ws (get_or order i 0)) →
         Settled (λ v. s.place v < i + 1) ws marks keep₀ (set keep (get_or order i 0) 1)
     unfolding u
     settled-yes o =
@@ -513,9 +513,9 @@ module _ {ws order : List ℕ} (s : Sorted ws order) {i : ℕ} (inside : i < siz
             go (no d) = get_or-set_other keep u v 1 0 d ∙ e
 
         along : (a b : ℕ) → Onward ws marks keep a b → Onward ws marks new a b
-        along a b (k, low, high, x) = (k, low, high, record { leads = x.leads; enters = still (targetAt ws k) x.enters })
+        along a b (k, low, high, x) = (k, low, high, record { leads = x.leads; enters = still (target_at ws k) x.enters })
 
-        found : (v : ℕ) → v < size ws → s.place v < i + 1 → Onward ws marks new (linksFrom ws v) (rowEnd ws v) → Dec (v ≡ u) →
+        found : (v : ℕ) → v < size ws → s.place v < i + 1 → Onward ws marks new (links_from ws v) (row_end ws v) → Dec (v ≡ u) →
             get_or new v 0 ≡ 1
         found v h l x (yes e) = ap (λ (y : ℕ). get_or new y 0) e ∙ here
         found v h l (k, low, high, x) (no d) =
@@ -525,17 +525,17 @@ module _ {ws order : List ℕ} (s : Sorted ws order) {i : ℕ} (inside : i < siz
               high,
               record {
                 leads = x.leads;
-                enters = sym (get_or-set_other keep u (targetAt ws k) 1 0 (elsewhere v k h l low high)) ∙ x.enters;
+                enters = sym (get_or-set_other keep u (target_at ws k) 1 0 (elsewhere v k h l low high)) ∙ x.enters;
               },
             ))
 
         why : (v : ℕ) → v < size ws → get_or new v 0 ≡ 1 → Dec (v ≡ u) →
-            (get_or keep₀ v 0 ≡ 1) ⊎ Onward ws marks new (linksFrom ws v) (rowEnd ws v)
+            (get_or keep₀ v 0 ≡ 1) ⊎ Onward ws marks new (links_from ws v) (row_end ws v)
         why v h e (yes d) =
-            inr (subst (λ (x : ℕ). Onward ws marks new (linksFrom ws x) (rowEnd ws x)) (sym d) (along _ _ o))
+            inr (subst (λ (x : ℕ). Onward ws marks new (links_from ws x) (row_end ws x)) (sym d) (along _ _ o))
         why v h e (no d) =
             ⊎_elim (λ (x : get_or keep₀ v 0 ≡ 1). inl x)
-            (λ (x : Onward ws marks keep (linksFrom ws v) (rowEnd ws v)). inr (along _ _ x))
+            (λ (x : Onward ws marks keep (links_from ws v) (row_end ws v)). inr (along _ _ x))
             (g.why v h (sym (get_or-set_other keep u v 1 0 d) ∙ e))
 
 -- After a turn of the loop, the invariant holds for an equal array of kept nodes.
@@ -552,8 +552,8 @@ left {s} {order} {marks} {before} {keep₀} {keep} {keep'} i e h r sorted new = 
 pub record NodeKnown (s : List ℕ) (v : ℕ) : Type 0 where
   pub small : v < 255
   pub node : Node s v
-  pub ended : rowEnd s v ≤ longest
-  pub within : (k : ℕ) → linksFrom s v ≤ k → k < rowEnd s v → targetAt s k < 255
+  pub ended : row_end s v ≤ longest
+  pub within : (k : ℕ) → links_from s v ≤ k → k < row_end s v → target_at s k < 255
 
 pub node-known : {s marks keep : List ℕ} → Markable s marks keep → (v : ℕ) → v < size s → NodeKnown s v
 node-known r v h =
@@ -580,7 +580,7 @@ settled-done s g h =
 
 -- All steps together keep exactly the nodes with a reason.
 pub keeps-all : (n : ℕ) (t s marks labels start : List ℕ) {caused' labelled' keep : List ℕ} → size s ≤ 255 → length start ≡ 255 → ((v : ℕ) → v < 255 → get_or start v 0 ≡ 0) →
-    Grown (Cause s marks (rowsEnd s)) (set start 0 1) caused' → Grown (Untop n t labels (size s)) caused' labelled' →
+    Grown (Cause s marks (rows_end s)) (set start 0 1) caused' → Grown (Untop n t labels (size s)) caused' labelled' →
     Settled (λ _. Unit {0}) s marks labelled' keep → Keeps n t s marks labels keep
 keeps-all n t s marks labels start {caused'} {labelled'} {keep} small long clear a b c =
     record { long = c.long; why = why; found = found }
@@ -602,11 +602,11 @@ keeps-all n t s marks labels start {caused'} {labelled'} {keep} small long clear
     why v h e =
         ⊎_elim (λ (x : get_or labelled' v 0 ≡ 1).
         ⊎_elim (λ (y : get_or caused' v 0 ≡ 1).
-        ⊎_elim (λ (z : get_or (set start 0 1) v 0 ≡ 1). isRoot (rooted v (wide v h) z)) caused (a.why v (wide v h) y))
+        ⊎_elim (λ (z : get_or (set start 0 1) v 0 ≡ 1). is_root (rooted v (wide v h) z)) caused (a.why v (wide v h) y))
         (λ (y : Untop n t labels (size s) v). untop y.1) (b.why v (wide v h) x)) onward (c.why v h e)
 
     found : (v : ℕ) → v < size s → Reason v → get_or keep v 0 ≡ 1
-    found v h (isRoot e) =
+    found v h (is_root e) =
         c.kept v (wide v h) (b.kept v (wide v h) (a.kept v (wide v h)
         (ap (λ (i : ℕ). get_or (set start 0 1) i 0) e ∙ get_or-set_same start 0 1 0 (omega arith))))
     found v h (caused x) = c.kept v (wide v h) (b.kept v (wide v h) (a.found v (wide v h) x))

@@ -7,8 +7,8 @@ use native.Mathlib.Omega.{arith}
 use lib.ListN.{length, get_or, set, length-set}
 use lib.Seq.{get_or-set_same, get_or-set_other}
 use Rattle.lattice.specs.Labels.{Known}
-use Rattle.layout.specs.Layout.{longest, header, scale, size, rowFrom, linksFrom, rowEnd, label_at, labelFrom, featureAt, Sound, Place}
-use Rattle.layout.specs.Builder.{Open, putLabel}
+use Rattle.layout.specs.Layout.{longest, header, scale, size, row_from, links_from, row_end, label_at, label_from, feature_at, Sound, Place}
+use Rattle.layout.specs.Builder.{Open, put_label}
 use Rattle.layout.proofs.Builder.{label_same, put-before, label-put, built-begin, built-kept, row_closes, built-node}
 use Rattle.layout.proofs.Order.{next_row, place-rises}
 use Rattle.keeping.specs.Keeping.{Stays, Markable}
@@ -30,13 +30,13 @@ rises p q h = omega arith
 pub record Thinning (s marks keep : List ℕ) (v k : ℕ) (ws₀ : List ℕ) (start : ℕ) (ws : List ℕ) (end : ℕ) : Type 0 where
   pub ready : Markable s marks keep
   pub inside : v < size s
-  pub low : linksFrom s v ≤ k
-  pub high : k ≤ rowEnd s v
+  pub low : links_from s v ≤ k
+  pub high : k ≤ row_end s v
   pub thinned : Thinned s marks keep v k ws₀ start ws end
 
 module _ {s marks keep : List ℕ} {v : ℕ} where
-  pub thin-start : {ws : List ℕ} {start : ℕ} → Markable s marks keep → v < size s → length ws ≡ length s → start ≤ linksFrom s v →
-      Thinning s marks keep v (linksFrom s v) ws start ws start
+  pub thin-start : {ws : List ℕ} {start : ℕ} → Markable s marks keep → v < size s → length ws ≡ length s → start ≤ links_from s v →
+      Thinning s marks keep v (links_from s v) ws start ws start
   thin-start r h long low =
       record {
         ready = r;
@@ -55,7 +55,7 @@ module _ {s marks keep : List ℕ} {v : ℕ} where
             };
       }
 
-  module _ {k : ℕ} {ws₀ : List ℕ} {start : ℕ} {ws : List ℕ} {end : ℕ} (t : Thinning s marks keep v k ws₀ start ws end) (more : k < rowEnd s v) where
+  module _ {k : ℕ} {ws₀ : List ℕ} {start : ℕ} {ws : List ℕ} {end : ℕ} (t : Thinning s marks keep v k ws₀ start ws end) (more : k < row_end s v) where
     here : Place s v k
     here = record { inside = t.inside; low = t.low; high = more }
 
@@ -127,7 +127,7 @@ module _ {s marks keep : List ℕ} {v : ℕ} where
             let (i, a, b, c) = t.thinned.all j p (omega arith) x in
             (i, a, omega arith, old i b ∙ c)
 
-        ascending : (i : ℕ) → start ≤ i → i + 1 < end + 1 → Dec (i + 1 ≡ end) → featureAt new i < featureAt new (i + 1)
+        ascending : (i : ℕ) → start ≤ i → i + 1 < end + 1 → Dec (i + 1 ≡ end) → feature_at new i < feature_at new (i + 1)
         ascending i a b (yes e) =
             let (j, p, l, x, c) = t.thinned.source i a (omega arith) in
             rises
@@ -143,8 +143,8 @@ module _ {s marks keep : List ℕ} {v : ℕ} where
       Thinning s marks keep v k ws₀ start ws' end'
   thin-as p e t = rw (p, e) t
 
-  pub thin-done : {k : ℕ} {ws₀ ws : List ℕ} {start end : ℕ} → Thinning s marks keep v k ws₀ start ws end → rowEnd s v ≤ k →
-      Thinned s marks keep v (rowEnd s v) ws₀ start ws end
+  pub thin-done : {k : ℕ} {ws₀ ws : List ℕ} {start end : ℕ} → Thinning s marks keep v k ws₀ start ws end → row_end s v ≤ k →
+      Thinned s marks keep v (row_end s v) ws₀ start ws end
   thin-done {k} {ws₀} {ws} {start} {end} t l =
       subst (λ (x : ℕ). Thinned s marks keep v x ws₀ start ws end) (omega (arith, t.high)) t.thinned
 
@@ -155,18 +155,18 @@ pub record RowKnown (s : List ℕ) (v at : ℕ) : Type 0 where
   pub small : v < 255
   pub room : at + header ≤ longest
   pub fits : at + header ≤ length s
-  pub before : at + header ≤ linksFrom s v
-  pub ended : rowEnd s v ≤ longest
-  pub inside : rowEnd s v ≤ length s
+  pub before : at + header ≤ links_from s v
+  pub ended : row_end s v ≤ longest
+  pub inside : row_end s v ≤ length s
 
 module _ {s marks keep labels : List ℕ} where
   pub rows_start : (ws : List ℕ) → Markable s marks keep → length ws ≡ length s →
-      Rows s marks keep labels 0 (set (set ws 0 (size s)) 1 (rowFrom s 0)) (rowFrom s 0)
+      Rows s marks keep labels 0 (set (set ws 0 (size s)) 1 (row_from s 0)) (row_from s 0)
   rows_start ws r long =
       record {
-        long = length-set (set ws 0 (size s)) 1 (rowFrom s 0) ∙ first-long;
-        sized = get_or-set_other (set ws 0 (size s)) 1 0 (rowFrom s 0) 0 (λ e. omega arith) ∙ get_or-set_same ws 0 (size s) 0 (omega (arith, room, r.sound.shaped.behind));
-        built = built-begin (set ws 0 (size s)) (rowFrom s 0) (omega (arith, r.sound.shaped.behind)) (omega (arith, first-long, room));
+        long = length-set (set ws 0 (size s)) 1 (row_from s 0) ∙ first-long;
+        sized = get_or-set_other (set ws 0 (size s)) 1 0 (row_from s 0) 0 (λ e. omega arith) ∙ get_or-set_same ws 0 (size s) 0 (omega (arith, room, r.sound.shaped.behind));
+        built = built-begin (set ws 0 (size s)) (row_from s 0) (omega (arith, r.sound.shaped.behind)) (omega (arith, first-long, room));
         short = omega arith;
         labelled = λ u h. absurd (omega arith);
         each = λ u i h. absurd (omega arith);
@@ -177,7 +177,7 @@ module _ {s marks keep labels : List ℕ} where
       first-long : length (set ws 0 (size s)) ≡ length s
       first-long = length-set ws 0 (size s) ∙ long
 
-      room : rowFrom s 0 ≤ length s
+      room : row_from s 0 ≤ length s
       room =
           let node = r.sound.shaped.node 0 r.sound.shaped.nonempty in
           omega (arith, node.begun, node.ended)
@@ -196,21 +196,21 @@ module _ {s marks keep labels : List ℕ} where
         }
 
     -- The row gets its label and its links.
-    module _ {end : ℕ} {begun ws' : List ℕ} (put : begun ≡ putLabel ws at (labelFrom labels (2 * v)))
-        (given : Thinned s marks keep v (rowEnd s v) begun (at + header) ws' end) where
-      t : Thinned s marks keep v (rowEnd s v) (putLabel ws at (labelFrom labels (2 * v))) (at + header) ws' end
-      t = subst (λ (l : List ℕ). Thinned s marks keep v (rowEnd s v) l (at + header) ws' end) put given
+    module _ {end : ℕ} {begun ws' : List ℕ} (put : begun ≡ put_label ws at (label_from labels (2 * v)))
+        (given : Thinned s marks keep v (row_end s v) begun (at + header) ws' end) where
+      t : Thinned s marks keep v (row_end s v) (put_label ws at (label_from labels (2 * v))) (at + header) ws' end
+      t = subst (λ (l : List ℕ). Thinned s marks keep v (row_end s v) l (at + header) ws' end) put given
 
       new : List ℕ
       new = set ws' (v + 2) end
 
-      listed : v + 2 < rowFrom s 0
+      listed : v + 2 < row_from s 0
       listed = omega (arith, ready.sound.shaped.behind)
 
       -- The words before the row stay.
       kept : (i : ℕ) → i < at → get_or ws' i 0 ≡ get_or ws i 0
       kept i h =
-          t.same i (omega arith) (omega arith) ∙ put-before ws at (labelFrom labels (2 * v)) 0 at (omega arith) i (omega arith) h
+          t.same i (omega arith) (omega arith) ∙ put-before ws at (label_from labels (2 * v)) 0 at (omega arith) i (omega arith) h
 
       other : (i : ℕ) → (i ≡ v + 2 → ⊥) → get_or new i 0 ≡ get_or ws' i 0
       unfolding new
@@ -219,27 +219,27 @@ module _ {s marks keep labels : List ℕ} where
       still : (i : ℕ) → i < at → (i ≡ v + 2 → ⊥) → get_or new i 0 ≡ get_or ws i 0
       still i h d = other i d ∙ kept i h
 
-      starts : (u : ℕ) → u < v + 1 → rowFrom new u ≡ rowFrom ws u
+      starts : (u : ℕ) → u < v + 1 → row_from new u ≡ row_from ws u
       starts u h = still (u + 1) (omega (arith, listed, r.built.low)) (λ e. omega arith)
 
-      ends : (u : ℕ) → u < v → rowEnd new u ≡ rowEnd ws u
+      ends : (u : ℕ) → u < v → row_end new u ≡ row_end ws u
       ends u h = still (u + 2) (omega (arith, listed, r.built.low)) (λ e. omega arith)
 
-      begins : rowFrom new v ≡ at
+      begins : row_from new v ≡ at
       begins = starts v (omega arith) ∙ r.built.next
 
-      last : rowEnd new v ≡ end
+      last : row_end new v ≡ end
       unfolding new
       last = get_or-set_same ws' (v + 2) end 0 (omega (arith, t.long, listed, r.built.low, row-known.fits))
 
-      place_kept : (u i : ℕ) → u < v → rowFrom ws u ≤ i → i < rowEnd ws u → get_or new i 0 ≡ get_or ws i 0
+      place_kept : (u i : ℕ) → u < v → row_from ws u ≤ i → i < row_end ws u → get_or new i 0 ≡ get_or ws i 0
       place_kept u i h low high =
           still i (omega (arith, r.built.ended u h)) (λ e. omega (arith, listed, r.built.lower u h))
 
       place-new : (i : ℕ) → at ≤ i → get_or new i 0 ≡ get_or ws' i 0
       place-new i h = other i (λ e. omega (arith, listed, r.built.low))
 
-      opened : Open ws' (rowFrom s 0) v at end
+      opened : Open ws' (row_from s 0) v at end
       opened =
           record {
             built = built-kept r.built ws' (t.long ∙ sym r.long) (λ i low high. kept i (omega (arith, listed, r.built.low)));
@@ -261,22 +261,22 @@ module _ {s marks keep labels : List ℕ} where
             ascending = λ u i h low high. ascending u i h low high (ℕ_discrete u v);
           }
         where
-          labelled : (u : ℕ) → u < v + 1 → Dec (u ≡ v) → label_at new u ≡ labelFrom labels (2 * u)
+          labelled : (u : ℕ) → u < v + 1 → Dec (u ≡ v) → label_at new u ≡ label_from labels (2 * u)
           labelled u h (yes e) =
-              ap (label_at new) e ∙ ap (labelFrom new) begins ∙
-              label_same (putLabel ws at (labelFrom labels (2 * v))) new at (λ i low high. place-new i low ∙ t.same i (omega arith) high) ∙
-              label-put ws at (labelFrom labels (2 * v)) (omega (arith, r.long, row-known.fits)) (omega arith) ∙
-              ap (λ (x : ℕ). labelFrom labels (2 * x)) (sym e)
+              ap (label_at new) e ∙ ap (label_from new) begins ∙
+              label_same (put_label ws at (label_from labels (2 * v))) new at (λ i low high. place-new i low ∙ t.same i (omega arith) high) ∙
+              label-put ws at (label_from labels (2 * v)) (omega (arith, r.long, row-known.fits)) (omega arith) ∙
+              ap (λ (x : ℕ). label_from labels (2 * x)) (sym e)
           labelled u h (no d) =
               let l : u < v = omega arith in
-              ap (labelFrom new) (starts u h) ∙
-              label_same ws new (rowFrom ws u) (λ i low high. place_kept u i l low (omega (arith, r.built.begun u l))) ∙ r.labelled u l
+              ap (label_from new) (starts u h) ∙
+              label_same ws new (row_from ws u) (λ i low high. place_kept u i l low (omega (arith, r.built.begun u l))) ∙ r.labelled u l
 
-          each : (u i : ℕ) → u < v + 1 → linksFrom new u ≤ i → i < rowEnd new u → Dec (u ≡ v) →
+          each : (u i : ℕ) → u < v + 1 → links_from new u ≤ i → i < row_end new u → Dec (u ≡ v) →
               (j : ℕ) × Place s u j × Stays s marks keep j × (get_or new i 0 ≡ get_or s j 0)
           each u i h low high (yes e) =
-              let a : rowFrom new u ≡ at = ap (rowFrom new) e ∙ begins in
-              let b : rowEnd new u ≡ end = ap (rowEnd new) e ∙ last in
+              let a : row_from new u ≡ at = ap (row_from new) e ∙ begins in
+              let b : row_end new u ≡ end = ap (row_end new) e ∙ last in
               let (j, p, l, x, c) = t.source i (omega (arith, a)) (omega (arith, b)) in
               (j, subst (λ (y : ℕ). Place s y j) (sym e) p, x, place-new i (omega (arith, a)) ∙ c)
           each u i h low high (no d) =
@@ -287,10 +287,10 @@ module _ {s marks keep labels : List ℕ} where
               (j, p, x, place_kept u i l (omega (arith, a)) (omega (arith, b)) ∙ c)
 
           all : (u j : ℕ) → u < v + 1 → Place s u j → Stays s marks keep j → Dec (u ≡ v) →
-              (i : ℕ) × (linksFrom new u ≤ i) × (i < rowEnd new u) × (get_or new i 0 ≡ get_or s j 0)
+              (i : ℕ) × (links_from new u ≤ i) × (i < row_end new u) × (get_or new i 0 ≡ get_or s j 0)
           all u j h p x (yes e) =
-              let a : rowFrom new u ≡ at = ap (rowFrom new) e ∙ begins in
-              let b : rowEnd new u ≡ end = ap (rowEnd new) e ∙ last in
+              let a : row_from new u ≡ at = ap (row_from new) e ∙ begins in
+              let b : row_end new u ≡ end = ap (row_end new) e ∙ last in
               let q : Place s v j = subst (λ (y : ℕ). Place s y j) e p in
               let (i, low, high, c) = t.all j q q.high x in
               (i, omega (arith, a), omega (arith, b), place-new i (omega arith) ∙ c)
@@ -301,10 +301,10 @@ module _ {s marks keep labels : List ℕ} where
               let (i, low, high, c) = r.all u j l p x in
               (i, omega (arith, a), omega (arith, b), place_kept u i l (omega arith) high ∙ c)
 
-          ascending : (u i : ℕ) → u < v + 1 → linksFrom new u ≤ i → i + 1 < rowEnd new u → Dec (u ≡ v) → featureAt new i < featureAt new (i + 1)
+          ascending : (u i : ℕ) → u < v + 1 → links_from new u ≤ i → i + 1 < row_end new u → Dec (u ≡ v) → feature_at new i < feature_at new (i + 1)
           ascending u i h low high (yes e) =
-              let a : rowFrom new u ≡ at = ap (rowFrom new) e ∙ begins in
-              let b : rowEnd new u ≡ end = ap (rowEnd new) e ∙ last in
+              let a : row_from new u ≡ at = ap (row_from new) e ∙ begins in
+              let b : row_end new u ≡ end = ap (row_end new) e ∙ last in
               rises (copied-feature (place-new i (omega (arith, a))))
               (copied-feature (place-new (i + 1) (omega (arith, a))))
               (t.ascending i (omega (arith, a)) (omega (arith, b)))
@@ -320,7 +320,7 @@ module _ {s marks keep labels : List ℕ} where
   rows-done {v} {at} {ws} r h l = (at, subst (λ (x : ℕ). Rows s marks keep labels x ws at) (omega arith) r)
 
   -- The words hold a graph.
-  pub rows-sound : {ws : List ℕ} → Markable s marks keep → ((v : ℕ) → v < size s → Known 128 (labelFrom labels (2 * v))) → Kept s marks keep labels ws → Sound ws
+  pub rows-sound : {ws : List ℕ} → Markable s marks keep → ((v : ℕ) → v < size s → Known 128 (label_from labels (2 * v))) → Kept s marks keep labels ws → Sound ws
   rows-sound {ws} ready known (at, r) =
       record {
         shaped =

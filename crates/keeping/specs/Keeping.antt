@@ -1,8 +1,8 @@
 -- Which nodes of s are kept (document 01, "Difference"): `keep` has 1 at a kept node. A link leads its group where its mark is not 0, and a mark
 -- of 2 says that nothing of g lies over the link.
 use Rattle.std.specs.Prelude.{◌≡◌, Bool, true, false, List, ◌⊎◌, ℕ, ◌+◌, ◌*◌, ◌≤◌, ◌<◌, length, get_or}
-use Rattle.lattice.specs.Labels.{tableLabels, Known}
-use Rattle.layout.specs.Layout.{longest, header, labelFrom, size, linksFrom, rowEnd, targetAt, Sound, Place, rowsEnd}
+use Rattle.lattice.specs.Labels.{table_labels, Known}
+use Rattle.layout.specs.Layout.{longest, header, label_from, size, links_from, row_end, target_at, Sound, Place, rows_end}
 use Rattle.visits.specs.Walks.{TargetsFirst}
 
 -- The kept nodes grow by exactly the nodes for which Q holds.
@@ -19,7 +19,7 @@ pub record Leads (s marks : List ℕ) (k v : ℕ) : Type 0 where
   pub link : Place s node place
   pub before : place < k
   pub leading : get_or marks place 0 ≡ 0 → ⊥
-  pub enters : targetAt s place ≡ v
+  pub enters : target_at s place ≡ v
 
 -- Of the links before place k that enter v, two lead their groups, or one leads and has nothing of g over it.
 pub data Cause (s marks : List ℕ) (k v : ℕ) : Type 0 where
@@ -41,16 +41,16 @@ Enters s marks k keep entered keep' entered' =
 -- The labels of `nodes` nodes are labels of a table with n types.
 pub record NodeLabels (n nodes : ℕ) (labels : List ℕ) : Type 0 where
   pub long : length labels ≡ 510
-  pub known : (v : ℕ) → v < nodes → Known n (labelFrom labels (header * v))
+  pub known : (v : ℕ) → v < nodes → Known n (label_from labels (header * v))
 
 -- v is one of the first k nodes, and its label is not top.
 abbrev pub Untop : ℕ → List ℕ → List ℕ → ℕ → ℕ → Type 0
-Untop n t labels k v = (v < k) × ((tableLabels n t).le (tableLabels n t).top (labelFrom labels (header * v)) ≡ false)
+Untop n t labels k v = (v < k) × ((table_labels n t).le (table_labels n t).top (label_from labels (header * v)) ≡ false)
 
 -- The link at place k is kept: it leads its group and enters a kept node.
 pub record Stays (s marks keep : List ℕ) (k : ℕ) : Type 0 where
   pub leads : get_or marks k 0 ≡ 0 → ⊥
-  pub enters : get_or keep (targetAt s k) 0 ≡ 1
+  pub enters : get_or keep (target_at s k) 0 ≡ 1
 
 -- A link between two places is kept.
 abbrev pub Onward : List ℕ → List ℕ → List ℕ → ℕ → ℕ → Type 0
@@ -79,16 +79,16 @@ pub record Sorted (s order : List ℕ) : Type 0 where
 pub record Settled (done : ℕ → Type 0) (s marks keep keep' : List ℕ) : Type 0 where
   pub long : length keep' ≡ 255
   pub kept : (v : ℕ) → v < 255 → get_or keep v 0 ≡ 1 → get_or keep' v 0 ≡ 1
-  pub found : (v : ℕ) → v < size s → done v → Onward s marks keep' (linksFrom s v) (rowEnd s v) → get_or keep' v 0 ≡ 1
-  pub why : (v : ℕ) → v < size s → get_or keep' v 0 ≡ 1 → (get_or keep v 0 ≡ 1) ⊎ Onward s marks keep' (linksFrom s v) (rowEnd s v)
+  pub found : (v : ℕ) → v < size s → done v → Onward s marks keep' (links_from s v) (row_end s v) → get_or keep' v 0 ≡ 1
+  pub why : (v : ℕ) → v < size s → get_or keep' v 0 ≡ 1 → (get_or keep v 0 ≡ 1) ⊎ Onward s marks keep' (links_from s v) (row_end s v)
 
 -- Why a node is kept: it is the root; two groups enter it, or a group with nothing of g over it does; its wanted label is not top; or a kept link
 -- leaves it.
 pub data Why (n : ℕ) (t s marks labels keep : List ℕ) (v : ℕ) : Type 0 where
-  isRoot : v ≡ 0 → Why n t s marks labels keep v
-  caused : Cause s marks (rowsEnd s) v → Why n t s marks labels keep v
-  untop : (tableLabels n t).le (tableLabels n t).top (labelFrom labels (header * v)) ≡ false → Why n t s marks labels keep v
-  onward : Onward s marks keep (linksFrom s v) (rowEnd s v) → Why n t s marks labels keep v
+  is_root : v ≡ 0 → Why n t s marks labels keep v
+  caused : Cause s marks (rows_end s) v → Why n t s marks labels keep v
+  untop : (table_labels n t).le (table_labels n t).top (label_from labels (header * v)) ≡ false → Why n t s marks labels keep v
+  onward : Onward s marks keep (links_from s v) (row_end s v) → Why n t s marks labels keep v
 
 -- Exactly the nodes with a reason are kept.
 pub record Keeps (n : ℕ) (t s marks labels keep : List ℕ) : Type 0 where

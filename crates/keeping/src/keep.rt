@@ -1,7 +1,7 @@
 // The nodes that the difference keeps, in an array with 1 for a kept node, else 0.
 
 ghost use Rattle.std.specs.Prelude.{◌≡◌, ℕ, ◌≤◌, ◌<◌, length, get_or};
-ghost use Rattle.layout.specs.Layout.{Place, rowsEnd, size, targetAt};
+ghost use Rattle.layout.specs.Layout.{Place, rows_end, size, target_at};
 ghost use Rattle.visits.specs.Walks.{Reaches};
 ghost use Rattle.keeping.specs.Keeping.{Cause, Decides, Enters, Grown, Keeps, Markable, NodeLabels, Onward, Settled, Sorted, Stays, Untop};
 
@@ -16,7 +16,7 @@ fn keep_one<'a>(
     entered: &mut [u8; 255],
     keep: &mut [u8; 255],
 )
-    requires by_index { ((u : ℕ) × Place s.now u k) × (k < length s.now) × (targetAt s.now k < 255) }
+    requires by_index { ((u : ℕ) × Place s.now u k) × (k < length s.now) × (target_at s.now k < 255) }
     requires marks_len { (length marks.now ≡ length s.now) × (length entered.old ≡ 255) × (length keep.old ≡ 255) }
     ensures { Enters s.now marks.now k keep.old entered.old keep.new entered.new }
 {
@@ -39,7 +39,7 @@ fn keep_one<'a>(
 // Keeps the nodes that two leading links enter, or one with nothing of g over it.
 pub fn keep_entered<'a>(s: &'a [u16], marks: &'a [u8], keep: &mut [u8; 255])
     requires { Markable s.now marks.now keep.old }
-    ensures { Grown (Cause s.now marks.now (rowsEnd s.now)) keep.old keep.new }
+    ensures { Grown (Cause s.now marks.now (rows_end s.now)) keep.old keep.new }
 {
     let mut entered = [0u8; 255];
     let nodes = s[0] as usize;
@@ -84,7 +84,7 @@ fn keep_labelled<'a>(
 // Whether the link at place k leads its group and enters a kept node.
 pub fn is_kept<'a>(s: &'a [u16], marks: &'a [u8], keep: &'a [u8; 255], k: usize) -> bool
     requires marks_len { (length marks.now ≡ length s.now) × (length keep.now ≡ 255) }
-    requires k_in_bounds { (k < length s.now) × (targetAt s.now k < 255) }
+    requires k_in_bounds { (k < length s.now) × (target_at s.now k < 255) }
     ensures { Decides (Stays s.now marks.now keep.now k) result }
 {
     if marks[k] == groups::FOLLOWS {
@@ -102,7 +102,7 @@ fn has_kept_link<'a>(
     end: usize,
 ) -> bool
     requires marks_len { (length marks.now ≡ length s.now) × (length keep.now ≡ 255) × (end ≤ length s.now) }
-    requires by_index { (k : ℕ) → start ≤ k → k < end → targetAt s.now k < 255 }
+    requires by_index { (k : ℕ) → start ≤ k → k < end → target_at s.now k < 255 }
     ensures { Decides (Onward s.now marks.now keep.now start end) result }
 {
     let mut k = start;

@@ -2,7 +2,7 @@
 
 ghost use Rattle.std.specs.Prelude.{◌≡◌, ℕ, ◌*◌, ◌≤◌, ◌<◌, length};
 ghost use Rattle.lattice.specs.Labels.{Known};
-ghost use Rattle.layout.specs.Layout.{header, labelFrom, linksFrom, rowEnd, size};
+ghost use Rattle.layout.specs.Layout.{header, label_from, links_from, row_end, size};
 ghost use Rattle.keeping.specs.Keeping.{Markable};
 ghost use Rattle.keeping.specs.Thinning.{Kept, Thinned};
 
@@ -16,8 +16,8 @@ fn keep_row<'a>(
     words: &mut [u16],
 ) -> usize
     requires markable { Markable s.now marks.now keep.now × (v < size s.now) }
-    requires words_len { (length words.old ≡ length s.now) × (at ≤ linksFrom s.now v) }
-    ensures { Thinned s.now marks.now keep.now v (rowEnd s.now v) words.old at words.new result }
+    requires words_len { (length words.old ≡ length s.now) × (at ≤ links_from s.now v) }
+    ensures { Thinned s.now marks.now keep.now v (row_end s.now v) words.old at words.new result }
 {
     let end = s[v + 2] as usize;
     let mut k = s[v + 1] as usize + layout::HEADER;
@@ -41,7 +41,7 @@ pub fn kept_links<'a>(
     words: &mut [u16],
 )
     requires markable { Markable s.now marks.now keep.now }
-    requires labels_len { (length labels.now ≡ 510) × ((v : ℕ) → v < size s.now → Known 128 (labelFrom labels.now (header * v))) }
+    requires labels_len { (length labels.now ≡ 510) × ((v : ℕ) → v < size s.now → Known 128 (label_from labels.now (header * v))) }
     requires words_len { length words.old ≡ length s.now }
     ensures { Kept s.now marks.now keep.now labels.now words.new }
 {

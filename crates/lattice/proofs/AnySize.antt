@@ -13,7 +13,7 @@ use lib.Dec.{eqb}
 use Rattle.graphs.specs.Label.{Labels}
 use Rattle.graphs.specs.Graph.{Graph, TellsApart, Reached, Below, SameMeaning}
 use Rattle.graphs.specs.Generalize.{generalization}
-use Rattle.graphs.specs.Unify.{UnderClass, ClassMeet, IsUnification, Cycle, Clash, Unified, cycle, clash, unified, classGraph, unification}
+use Rattle.graphs.specs.Unify.{UnderClass, ClassMeet, IsUnification, Cycle, Clash, Unified, cycle, clash, unified, class_graph, unification}
 use Rattle.graphs.specs.Difference.{Link, difference}
 use Rattle.graphs.proofs.Lists.{tells-eqb}
 use Rattle.graphs.proofs.Below.{below-trans, map_below, same_refl, same-sym, same-meaning}
@@ -28,9 +28,9 @@ use Rattle.graphs.proofs.Difference.Computed as Computed
 use Rattle.graphs.proofs.Theorems as Theorems
 use Rattle.lattice.specs.Label.{Label}
 use Rattle.lattice.specs.Table.{accepted}
-use Rattle.lattice.specs.Labels.{tableLabels, OfAnySize, LeastOfAnySize, GreatestOfAnySize, LabelsMeet, LabelClash, IsCombination}
+use Rattle.lattice.specs.Labels.{table_labels, OfAnySize, LeastOfAnySize, GreatestOfAnySize, LabelsMeet, LabelClash, IsCombination}
 use Rattle.lattice.proofs.Relabel.{
-  relabelUnified,
+  relabel_unified,
   relabel-cycle,
   relabel-clash,
   joined-carried,
@@ -57,7 +57,7 @@ use Rattle.lattice.proofs.Transfer.{
 
 module _ (n : ℕ) (t : List ℕ) (ok : accepted n t ≡ true) where
   abbrev raw : Labels
-  raw = tableLabels n t
+  raw = table_labels n t
 
   abbrev law : Labels
   law = lawful n t ok
@@ -212,7 +212,7 @@ module _ (n : ℕ) (t : List ℕ) (ok : accepted n t ≡ true) where
         }
 
   -- "Combination", of two graphs of any size.
-  module _ {A B : Type 0} (sameA : A → A → Bool) (sameB : B → B → Bool) (tellsA : TellsApart sameA) (tellsB : TellsApart sameB) (g : Graph Label A)
+  module _ {A B : Type 0} (sameA : A → A → Bool) (sameB : B → B → Bool) (tells_a : TellsApart sameA) (tells_b : TellsApart sameB) (g : Graph Label A)
       (h : Graph Label B) (a : OfAnySize n t g) (b : OfAnySize n t h) where
     -- what unification answers, over labels and over labels of the table
     abbrev pub answer : Unified Label (A ⊎ B)
@@ -221,7 +221,7 @@ module _ (n : ℕ) (t : List ℕ) (ok : accepted n t ≡ true) where
     abbrev answers : Unified (KnownLabel n) (A ⊎ B)
     answers = unification law sameA sameB (lift n t ok g) a.any-size.nodes (lift n t ok h) b.any-size.nodes
 
-    answer-lower : answer ≡ relabelUnified (λ x. x.0) answers
+    answer-lower : answer ≡ relabel_unified (λ x. x.0) answers
     answer-lower =
         unification-lower n t ok sameA sameB g a.any-size.nodes h b.any-size.nodes
         (λ v m. a.typed v ((a.any-size.listed v).1 m)) (λ w m. b.typed w ((b.any-size.listed w).1 m))
@@ -234,7 +234,7 @@ module _ (n : ℕ) (t : List ℕ) (ok : accepted n t ≡ true) where
     unfolding any-size-lift lift-any-size
     unified-combination w e =
         let (is, size, _) =
-        Theorems.unification-is law (lawful-lattice n t ok) sameA sameB tellsA tellsB (lift n t ok g) (lift n t ok h)
+        Theorems.unification-is law (lawful-lattice n t ok) sameA sameB tells_a tells_b (lift n t ok g) (lift n t ok h)
         (lift-any-size n t ok g a) (lift-any-size n t ok h b) w e in (
           lower-of-any-size n t ok size,
           record {
@@ -250,7 +250,7 @@ module _ (n : ℕ) (t : List ℕ) (ok : accepted n t ≡ true) where
     pub unification-combination : (u : Graph Label (A ⊎ B)) → answer ≡ unified u → OfAnySize n t u × IsCombination n t g h u
     unification-combination u e = go answers refl (sym answer-lower ∙ e)
       where
-        go : (o : Unified (KnownLabel n) (A ⊎ B)) → answers ≡ o → relabelUnified (λ x. x.0) o ≡ unified u → OfAnySize n t u × IsCombination n t g h u
+        go : (o : Unified (KnownLabel n) (A ⊎ B)) → answers ≡ o → relabel_unified (λ x. x.0) o ≡ unified u → OfAnySize n t u × IsCombination n t g h u
         go cycle q r = let z : ◌≡◌ {A = ℕ} 0 1 = cc in absurd (omega arith)
         go clash q r = let z : ◌≡◌ {A = ℕ} 0 1 = cc in absurd (omega arith)
         go (unified w) q r =
@@ -283,7 +283,7 @@ module _ (n : ℕ) (t : List ℕ) (ok : accepted n t ≡ true) where
     unification-cycle =
         Iff.trans answer-cycle
         (Iff.trans
-        (Theorems.unification-cycle law (lawful-lattice n t ok) sameA sameB tellsA tellsB (lift n t ok g) (lift n t ok h)
+        (Theorems.unification-cycle law (lawful-lattice n t ok) sameA sameB tells_a tells_b (lift n t ok g) (lift n t ok h)
         (lift-any-size n t ok g a) (lift-any-size n t ok h b))
         (same-cycle.1, same-cycle.0))
 
@@ -310,7 +310,7 @@ module _ (n : ℕ) (t : List ℕ) (ok : accepted n t ≡ true) where
     unfolding any-size-lift lift-any-size
     unification-clash =
         let (there, back) =
-        Theorems.unification-clash law (lawful-lattice n t ok) sameA sameB tellsA tellsB (lift n t ok g) (lift n t ok h)
+        Theorems.unification-clash law (lawful-lattice n t ok) sameA sameB tells_a tells_b (lift n t ok g) (lift n t ok h)
         (lift-any-size n t ok g a) (lift-any-size n t ok h b) in (
           λ e.
               let (none, meets) = there (answer-clash.0 e) in
@@ -327,7 +327,7 @@ module _ (n : ℕ) (t : List ℕ) (ok : accepted n t ≡ true) where
       where
         none : Cycle law (lift n t ok g) (lift n t ok h) ⊎ Clash law (lift n t ok g) (lift n t ok h) → NoneBelow
         none bad C k size x y =
-            (Theorems.unification-none law (lawful-lattice n t ok) sameA sameB tellsA tellsB (lift n t ok g) (lift n t ok h)
+            (Theorems.unification-none law (lawful-lattice n t ok) sameA sameB tells_a tells_b (lift n t ok g) (lift n t ok h)
             (lift-any-size n t ok g a) (lift-any-size n t ok h b)).0 bad C (lift n t ok k) (lift-any-size n t ok k size)
             ((below-lift n t ok k g size.typed a.typed).0 x) ((below-lift n t ok k h size.typed b.typed).0 y)
 
@@ -370,10 +370,10 @@ module _ (n : ℕ) (t : List ℕ) (ok : accepted n t ≡ true) where
     -- where g and h combine, so do k and m, if the nodes of k and m are told apart
     pub combines-broader : (sameB : B → B → Bool) (sameD : D → D → Bool) → TellsApart sameB → TellsApart sameD → {U : Type 0} (u : Graph Label U) →
         GreatestOfAnySize n t g h u → (w : Graph Label (B ⊎ D)) × IsCombination n t k m w × GreatestOfAnySize n t k m w × Below raw u w
-    combines-broader sameB sameD tellsB tellsD u best =
+    combines-broader sameB sameD tells_b tellsD u best =
         let (left, right) = below-broader u best.of-any-size best.left best.right in
-        let (w, e) = unification-exists sameB sameD tellsB tellsD k m b d u best.of-any-size left right in
-        let (size, is) = unification-combination sameB sameD tellsB tellsD k m b d w e in
+        let (w, e) = unification-exists sameB sameD tells_b tellsD k m b d u best.of-any-size left right in
+        let (size, is) = unification-combination sameB sameD tells_b tellsD k m b d w e in
         let other = combination-greatest k m b d w size is in
         (w, is, other, greatest-monotone u w best other)
 
@@ -445,7 +445,7 @@ module _ (n : ℕ) (t : List ℕ) (ok : accepted n t ≡ true) where
         let higher : Below law dᴸ (lift n t ok e) =
         (below-lower n t ok).1 (subst (λ (k : Graph Label A). Below raw k (lower (lift n t ok e))) d-lower
         (same-below-right (lower-lift-same n t ok e c.typed) above)) in
-        let w = classGraph law.meet law.top eqb sameB (lift n t ok e) (lift-any-size n t ok e c).nodes
+        let w = class_graph law.meet law.top eqb sameB (lift n t ok e) (lift-any-size n t ok e c).nodes
         (lift n t ok g) (lift-any-size n t ok g b).nodes in
         let (size, is) =
         Outcome.graph-right lattice operands w

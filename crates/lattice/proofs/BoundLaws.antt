@@ -14,24 +14,24 @@ use lib.Dec.{leb, eqb}
 use lib.Bits.{bit_and, and_comm}
 use borrow.Author.Tests.{le-leb, eq-eqb, eqb-true}
 use Rattle.graphs.proofs.Search.{same_test, true-both}
-use Rattle.lattice.specs.Table.{every, last, implies, found, isMeet, isJoin, meet, join, sideBound}
-use Rattle.lattice.specs.Words.{word, related, Words, holder, wordBound, allFound}
+use Rattle.lattice.specs.Table.{every, last, implies, found, is_meet, is_join, meet, join, side_bound}
+use Rattle.lattice.specs.Words.{word, related, Words, holder, word_bound, all_found}
 use Rattle.lattice.proofs.Every.{and_left, and_right, implies-at, implies-from, every-at, every-all, last-same, last-passes, last_found, found_some, true-not-false, below_or_not, below_suc}
 use Rattle.lattice.proofs.WordLaws.{word_same, word-bits, word_and}
 use Rattle.lattice.proofs.OrderLaws.{Side, Ordered, side}
 
 -- c is on the side of a and of b, and every such type is on the side of c
-abbrev isBound : ℕ → (ℕ → ℕ → Bool) → ℕ → ℕ → ℕ → Bool
-isBound n rel a b c = rel a c && rel b c && every n λ d. implies (rel a d && rel b d) (rel c d)
+abbrev is_bound : ℕ → (ℕ → ℕ → Bool) → ℕ → ℕ → ℕ → Bool
+is_bound n rel a b c = rel a c && rel b c && every n λ d. implies (rel a d && rel b d) (rel c d)
 
 module _ (n : ℕ) (rel : ℕ → ℕ → Bool) (ws : List ℕ) (few : n ≤ 64) (laws : Side n rel)
     (words : (i : ℕ) → i < n → get_or ws i 0 ≡ word 64 (rel i)) where
   bound-test : (a b c : ℕ) → a < n → b < n → c < n
-      → eqb (get_or ws c 0) (bit_and (get_or ws a 0) (get_or ws b 0)) ≡ isBound n rel a b c
+      → eqb (get_or ws c 0) (bit_and (get_or ws a 0) (get_or ws b 0)) ≡ is_bound n rel a b c
   bound-test a b c la lb lc =
       let common : bit_and (get_or ws a 0) (get_or ws b 0) ≡ word 64 (λ j. rel a j && rel b j) =
       rw (words a la, words b lb, word_and 64 (rel a) (rel b)) in
-      same_test (eqb (get_or ws c 0) (bit_and (get_or ws a 0) (get_or ws b 0))) (isBound n rel a b c)
+      same_test (eqb (get_or ws c 0) (bit_and (get_or ws a 0) (get_or ws b 0))) (is_bound n rel a b c)
       (λ h.
       let bits : (j : ℕ) → j < 64 → rel c j ≡ (rel a j && rel b j) =
       word-bits 64 (rel c) (λ j. rel a j && rel b j) (sym (words c lc) ∙ eqb-true _ _ h ∙ common) in
@@ -56,20 +56,20 @@ module _ (n : ℕ) (rel : ℕ → ℕ → Bool) (ws : List ℕ) (few : n ≤ 64)
       e) ∙
       sym common)
 
-  bound-found : (a b : ℕ) → a < n → b < n → wordBound n ws a b ≡ last n (isBound n rel a b)
+  bound-found : (a b : ℕ) → a < n → b < n → word_bound n ws a b ≡ last n (is_bound n rel a b)
   unfolding holder
   bound-found a b la lb = last-same _ _ n λ c lc. bound-test a b c la lb lc
 
 -- two types have one bound in either order
-pub bound-turned : (n : ℕ) (ws : List ℕ) (a b : ℕ) → wordBound n ws a b ≡ wordBound n ws b a
+pub bound-turned : (n : ℕ) (ws : List ℕ) (a b : ℕ) → word_bound n ws a b ≡ word_bound n ws b a
 bound-turned n ws a b = ap (holder n ws) (and_comm (get_or ws a 0) (get_or ws b 0))
 
 -- it is enough to test each type with those numbered from it on
 module _ (n : ℕ) (ws : List ℕ) where
-  pub onward-found : every n (λ a. every n (λ b. implies (leb a b) (found (wordBound n ws a b)))) ≡ allFound n (wordBound n ws)
-  unfolding allFound
+  pub onward-found : every n (λ a. every n (λ b. implies (leb a b) (found (word_bound n ws a b)))) ≡ all_found n (word_bound n ws)
+  unfolding all_found
   onward-found =
-      let test : ℕ → ℕ → Bool = λ a b. found (wordBound n ws a b) in
+      let test : ℕ → ℕ → Bool = λ a b. found (word_bound n ws a b) in
       same_test (every n (λ a. every n (λ b. implies (leb a b) (test a b)))) (every n (λ a. every n (test a)))
       (λ h.
       let onward : (a b : ℕ) → a < n → b < n → a ≤ b → test a b ≡ true =
@@ -87,13 +87,13 @@ module _ (n : ℕ) (ws : List ℕ) where
 
 -- Bounds on one side give those on the other: a ∨ b is the meet of all upper bounds of both, and dually.
 module _ (n : ℕ) (rel : ℕ → ℕ → Bool) (laws : Side n rel) (end : ℕ) (type : end < n) (all : (i : ℕ) → i < n → rel end i ≡ true)
-    (bounds : (a b : ℕ) → a < n → b < n → found (last n (isBound n rel a b)) ≡ true) where
+    (bounds : (a b : ℕ) → a < n → b < n → found (last n (is_bound n rel a b)) ≡ true) where
   bound_of : (a b : ℕ) → a < n → b < n
       → (c : ℕ) × (c < n) × (rel a c ≡ true) × (rel b c ≡ true) × ((d : ℕ) → d < n → rel a d ≡ true → rel b d ≡ true → rel c d ≡ true)
   bound_of a b la lb =
-      let r : (c : ℕ) × (last n (isBound n rel a b) ≡ some c) = found_some (last n (isBound n rel a b)) (bounds a b la lb) in
+      let r : (c : ℕ) × (last n (is_bound n rel a b) ≡ some c) = found_some (last n (is_bound n rel a b)) (bounds a b la lb) in
       let c : ℕ = r.0 in
-      let passes : (c < n) × (isBound n rel a b c ≡ true) = last-passes (isBound n rel a b) n c r.1 in
+      let passes : (c < n) × (is_bound n rel a b c ≡ true) = last-passes (is_bound n rel a b) n c r.1 in
       let own : rel a c && rel b c ≡ true = and_left (rel a c && rel b c) _ passes.1 in
       let most : every n (λ d. implies (rel a d && rel b d) (rel c d)) ≡ true = and_right (rel a c && rel b c) _ passes.1 in (
         c,
@@ -134,25 +134,25 @@ module _ (n : ℕ) (rel : ℕ → ℕ → Bool) (laws : Side n rel) (end : ℕ) 
           (λ s. under d s f g),
     )
 
-  other-found : (a b : ℕ) → a < n → b < n → found (last n (isBound n (λ i j. rel j i) a b)) ≡ true
+  other-found : (a b : ℕ) → a < n → b < n → found (last n (is_bound n (λ i j. rel j i) a b)) ≡ true
   other-found a b la lb =
       let (c, lc, ca, cb, under) = shared-bound a b la lb n (omega arith) in
-      last_found (isBound n (λ i j. rel j i) a b) n c lc
+      last_found (is_bound n (λ i j. rel j i) a b) n c lc
       (true-both (rel c a && rel c b) _ (true-both (rel c a) (rel c b) ca cb)
       (every-all _ n λ d l.
       implies-from (rel d a && rel d b) (rel d c) λ e. under d l (and_left (rel d a) (rel d b) e) (and_right (rel d a) (rel d b) e)))
 
 module _ (n : ℕ) (t : List ℕ) (full : length t ≡ 8 * n) (o : Ordered n t) where
   pub bound-same : (up : Bool) (ws : List ℕ) → n ≤ 64 → Words n t up ws → (a b : ℕ) → a < n → b < n
-      → wordBound n ws a b ≡ sideBound n t up a b
-  unfolding meet isMeet join isJoin
+      → word_bound n ws a b ≡ side_bound n t up a b
+  unfolding meet is_meet join is_join
   bound-same true ws few words a b la lb = bound-found n (related t true) ws few (side n t true full o) words a b la lb
   bound-same false ws few words a b la lb = bound-found n (related t false) ws few (side n t false full o) words a b la lb
 
   -- where every two types have a bound on one side, every two have one on the other
-  pub other-side : (up other : Bool) → 0 < n → ((a b : ℕ) → a < n → b < n → found (sideBound n t up a b) ≡ true)
-      → (a b : ℕ) → a < n → b < n → found (sideBound n t other a b) ≡ true
-  unfolding meet isMeet join isJoin
+  pub other-side : (up other : Bool) → 0 < n → ((a b : ℕ) → a < n → b < n → found (side_bound n t up a b) ≡ true)
+      → (a b : ℕ) → a < n → b < n → found (side_bound n t other a b) ≡ true
+  unfolding meet is_meet join is_join
   other-side true true l h = h
   other-side false false l h = h
   other-side false true l h = other-found n (related t false) (side n t false full o) (n - 1) (omega arith) o.top h

@@ -10,30 +10,30 @@ use Prim.Native.Nat.{ℕ}
 use Rattle.graphs.specs.Label.{Labels}
 use Rattle.graphs.specs.Graph.{Graph, Below, SameMeaning, AnySize}
 use Rattle.graphs.specs.Rows.{features}
-use Rattle.graphs.specs.Order.{all_of, there, meetings, fitsAt, sharesAt, subsumes}
-use Rattle.graphs.specs.Generalize.{generalizationBy, generalization}
+use Rattle.graphs.specs.Order.{all_of, there, meetings, fits_at, shares_at, subsumes}
+use Rattle.graphs.specs.Generalize.{generalization_by, generalization}
 use Rattle.graphs.specs.Unify.{
   cycle,
   clash,
   unified,
-  labelBeside,
-  sameBeside,
-  nodesBeside,
-  classLabel,
-  className,
-  classGraph,
-  hasCycle,
-  hasClash,
-  unificationBy,
+  label_beside,
+  same_beside,
+  nodes_beside,
+  class_label,
+  class_name,
+  class_graph,
+  has_cycle,
+  has_clash,
+  unification_by,
   unification,
   any_of,
 }
 use Rattle.graphs.specs.Difference.{
   Link,
   difference,
-  keptLink,
+  kept_link,
   keeps,
-  keptItself,
+  kept_itself,
   leaders,
   lead,
   group_of,
@@ -43,10 +43,10 @@ use Rattle.graphs.specs.Difference.{
   covers,
   incoming,
   differ,
-  meetWhere,
-  meetOver,
+  meet_where,
+  meet_over,
 }
-use Rattle.lattice.proofs.Relabel.{relabel, relabelUnified}
+use Rattle.lattice.proofs.Relabel.{relabel, relabel_unified}
 
 -- what unification asks for
 pub record MeetEmbedding (𝓚 𝓛 : Labels) (f : 𝓚.L → 𝓛.L) : Type 0 where
@@ -66,8 +66,8 @@ labelled g label = record { root = g.root; label = label; link = g.link }
 
 -- labels that a test picks, met along a list
 meets-folded : (𝓛 : Labels) {B : Type 0} (test : B → Bool) (label : B → 𝓛.L) (ys : List B) →
-    meetWhere 𝓛 test label ys ≡ foldr (λ y a. cond (test y) (𝓛.meet (label y) a) a) 𝓛.top ys
-unfolding meetWhere
+    meet_where 𝓛 test label ys ≡ foldr (λ y a. cond (test y) (𝓛.meet (label y) a) a) 𝓛.top ys
+unfolding meet_where
 meets-folded 𝓛 test label [] = refl
 meets-folded 𝓛 test label (y ∷ ys) =
     ap (λ (a : 𝓛.L). cond (test y) (𝓛.meet (label y) a) a) (meets-folded 𝓛 test label ys)
@@ -96,68 +96,68 @@ module _ {𝓚 𝓛 : Labels} {f : 𝓚.L → 𝓛.L} (embeds : MeetEmbedding �
       (first : A → 𝓚.L) (second : B → 𝓚.L)
       (left : (v : A) → Memᴰ v gs → f (first v) ≡ g.label v) (right : (w : B) → Memᴰ w hs → f (second w) ≡ h.label w) where
     abbrev classes : Graph 𝓛.L (A ⊎ B)
-    classes = classGraph 𝓛.meet 𝓛.top sameA sameB g gs h hs
+    classes = class_graph 𝓛.meet 𝓛.top sameA sameB g gs h hs
 
     -- the same with the other labels
     abbrev others : Graph 𝓚.L (A ⊎ B)
-    others = classGraph 𝓚.meet 𝓚.top sameA sameB (labelled g first) gs (labelled h second) hs
+    others = class_graph 𝓚.meet 𝓚.top sameA sameB (labelled g first) gs (labelled h second) hs
 
     class-label : (c : A ⊎ B) → classes.label c ≡ f (others.label c)
-    unfolding classGraph classLabel className
+    unfolding class_graph class_label class_name
     class-label c =
-        meets-embedded (λ x. sameBeside sameA sameB (className sameA sameB g gs h hs x) c) (labelBeside g.label h.label)
-        (labelBeside first second) (nodesBeside gs hs) listed
+        meets-embedded (λ x. same_beside sameA sameB (class_name sameA sameB g gs h hs x) c) (label_beside g.label h.label)
+        (label_beside first second) (nodes_beside gs hs) listed
       where
-        listed : (x : A ⊎ B) → Memᴰ x (nodesBeside gs hs) → f (labelBeside first second x) ≡ labelBeside g.label h.label x
+        listed : (x : A ⊎ B) → Memᴰ x (nodes_beside gs hs) → f (label_beside first second x) ≡ label_beside g.label h.label x
         listed x m =
             ⊎_elim
             (λ i.
             let (v, k, e) = Memᴰ.of_map inl gs i in
-            subst (λ (x : A ⊎ B). f (labelBeside first second x) ≡ labelBeside g.label h.label x) e (left v k))
+            subst (λ (x : A ⊎ B). f (label_beside first second x) ≡ label_beside g.label h.label x) e (left v k))
             (λ i.
             let (w, k, e) = Memᴰ.of_map inr hs i in
-            subst (λ (x : A ⊎ B). f (labelBeside first second x) ≡ labelBeside g.label h.label x) e (right w k))
+            subst (λ (x : A ⊎ B). f (label_beside first second x) ≡ label_beside g.label h.label x) e (right w k))
             (Memᴰ.append_cases (map inl gs) m)
 
     class-graph : classes ≡ relabel f others
-    unfolding classGraph className
+    unfolding class_graph class_name
     class-graph = ap (labelled classes) (fun_ext class-label)
 
-    same-cycle : hasCycle sameA sameB g gs h hs ≡ hasCycle sameA sameB (labelled g first) gs (labelled h second) hs
-    unfolding hasCycle classGraph className
+    same-cycle : has_cycle sameA sameB g gs h hs ≡ has_cycle sameA sameB (labelled g first) gs (labelled h second) hs
+    unfolding has_cycle class_graph class_name
     same-cycle = refl
 
-    same-clash : hasClash 𝓛.meet 𝓛.top 𝓛.contradiction sameA sameB g gs h hs ≡
-        hasClash 𝓚.meet 𝓚.top 𝓚.contradiction sameA sameB (labelled g first) gs (labelled h second) hs
-    unfolding hasClash className
+    same-clash : has_clash 𝓛.meet 𝓛.top 𝓛.contradiction sameA sameB g gs h hs ≡
+        has_clash 𝓚.meet 𝓚.top 𝓚.contradiction sameA sameB (labelled g first) gs (labelled h second) hs
+    unfolding has_clash class_name
     same-clash =
-        ap (any_of (nodesBeside gs hs)) (fun_ext λ (x : A ⊎ B).
-        let c = className sameA sameB g gs h hs x in
+        ap (any_of (nodes_beside gs hs)) (fun_ext λ (x : A ⊎ B).
+        let c = class_name sameA sameB g gs h hs x in
         ap 𝓛.contradiction (class-label c) ∙
         embeds.contradiction (others.label c))
 
     pub unification-embedded : unification 𝓛 sameA sameB g gs h hs ≡
-        relabelUnified f (unification 𝓚 sameA sameB (labelled g first) gs (labelled h second) hs)
-    unfolding unificationBy
+        relabel_unified f (unification 𝓚 sameA sameB (labelled g first) gs (labelled h second) hs)
+    unfolding unification_by
     unification-embedded =
         ap₂ (λ (b c : Bool). cond b cycle (cond c clash (unified classes))) same-cycle same-clash ∙
-        go (hasCycle sameA sameB (labelled g first) gs (labelled h second) hs)
-        (hasClash 𝓚.meet 𝓚.top 𝓚.contradiction sameA sameB (labelled g first) gs (labelled h second) hs)
+        go (has_cycle sameA sameB (labelled g first) gs (labelled h second) hs)
+        (has_clash 𝓚.meet 𝓚.top 𝓚.contradiction sameA sameB (labelled g first) gs (labelled h second) hs)
       where
         go : (b c : Bool) →
             cond b cycle (cond c clash (unified classes)) ≡
-            relabelUnified f
+            relabel_unified f
             (cond b cycle (cond c clash (unified others)))
         go true c = refl
         go false true = refl
         go false false = ap unified class-graph
 
   -- the meet of all labels over a node
-  pub meetOver-embedded : {A B : Type 0} (sameA : A → A → Bool) (g : Graph 𝓛.L B) (gs : List B) (over : B → A) (label : B → 𝓚.L) →
+  pub meet_over-embedded : {A B : Type 0} (sameA : A → A → Bool) (g : Graph 𝓛.L B) (gs : List B) (over : B → A) (label : B → 𝓚.L) →
       ((w : B) → Memᴰ w gs → f (label w) ≡ g.label w) → (v : A) →
-      meetOver 𝓛 sameA g gs over v ≡ f (meetOver 𝓚 sameA (labelled g label) gs over v)
-  unfolding meetOver
-  meetOver-embedded sameA g gs over label are v =
+      meet_over 𝓛 sameA g gs over v ≡ f (meet_over 𝓚 sameA (labelled g label) gs over v)
+  unfolding meet_over
+  meet_over-embedded sameA g gs over label are v =
       meets-folded 𝓛 (λ y. sameA (over y) v) g.label gs ∙
       meets-embedded (λ y. sameA (over y) v) g.label label gs are ∙
       sym (ap f (meets-folded 𝓚 (λ y. sameA (over y) v) label gs))
@@ -219,10 +219,10 @@ module _ {𝓚 𝓛 : Labels} {f : 𝓚.L → 𝓛.L} (embeds : Embedding 𝓚 �
 
   pub subsumes-embedded : {A B : Type 0} (sameA : A → A → Bool) (sameB : B → B → Bool) (s : Graph 𝓚.L A) (g : Graph 𝓚.L B) (k : ℕ) →
       subsumes 𝓛 sameA sameB (relabel f s) (relabel f g) k ≡ subsumes 𝓚 sameA sameB s g k
-  unfolding subsumes fitsAt
+  unfolding subsumes fits_at
   subsumes-embedded {A} {B} sameA sameB s g k =
       let xs = meetings s g k in
-      ap (λ (fits : A × B → Bool). all_of xs fits && all_of xs λ x. all_of xs (sharesAt 𝓚 sameA sameB s g x))
+      ap (λ (fits : A × B → Bool). all_of xs fits && all_of xs λ x. all_of xs (shares_at 𝓚 sameA sameB s g x))
       (fun_ext λ (x : A × B).
       ap (λ (le : Bool). le && all_of features λ i. there (g.link x.1 i) (s.link x.0 i)) (embeds.le (s.label x.0) (g.label x.1)))
 
@@ -230,7 +230,7 @@ module _ {𝓚 𝓛 : Labels} {f : 𝓚.L → 𝓛.L} (embeds : Embedding 𝓚 �
 
   pub generalization-embedded : {A B : Type 0} (g : Graph 𝓚.L A) (h : Graph 𝓚.L B) →
       generalization 𝓛 (relabel f g) (relabel f h) ≡ relabel f (generalization 𝓚 g h)
-  unfolding generalizationBy
+  unfolding generalization_by
   generalization-embedded {A} {B} g h =
       ap (labelled (generalization 𝓚 g h)) (fun_ext (λ (x : A × B). embeds.join (g.label x.0) (h.label x.1)))
 
@@ -241,10 +241,10 @@ module _ {𝓚 𝓛 : Labels} {f : 𝓚.L → 𝓛.L} (embeds : Embedding 𝓚 �
       (s : Graph 𝓛.L A) (ss : List A) (g : Graph 𝓛.L B) (gs : List B) (over : B → A) (first wanted : A → 𝓚.L) (second : B → 𝓚.L) →
       difference 𝓛 sameA sameB earlier s ss g gs over (λ v. f (wanted v)) ≡
       relabel f (difference 𝓚 sameA sameB earlier (labelled s first) ss (labelled g second) gs over wanted)
-  unfolding difference keptLink keeps keptItself leaders lead group_of spread touch bare covers incoming differ
+  unfolding difference kept_link keeps kept_itself leaders lead group_of spread touch bare covers incoming differ
   difference-embedded {A} sameA sameB earlier s ss g gs over first wanted second =
       ap (λ (is_top : A → Bool). record {
         root = s.root;
         label = λ v. f (wanted v);
-        link = keptLink sameA sameB s ss g gs over earlier is_top;
+        link = kept_link sameA sameB s ss g gs over earlier is_top;
       }) (fun_ext λ (v : A). ap (λ (x : 𝓛.L). 𝓛.le x (f (wanted v))) embeds.meets.top ∙ embeds.le 𝓚.top (wanted v))

@@ -15,7 +15,7 @@ use Rattle.graphs.specs.Label.{Labels, Lattice}
 use Rattle.graphs.proofs.Search.{true-both}
 use Rattle.lattice.specs.Label.{Label, plain}
 use Rattle.lattice.specs.Table.{below, accepted, meet, join, cell}
-use Rattle.lattice.specs.Labels.{tableLabels, Known}
+use Rattle.lattice.specs.Labels.{table_labels, Known}
 use Rattle.lattice.proofs.Every.{below_or_not, and_left, and_right}
 use Rattle.lattice.proofs.Laws.{
   Meet,
@@ -83,7 +83,7 @@ pub record Inside (t : List ℕ) (x y : Label) : Type 0 where
   pub highest : x.highest ≤ y.highest
 
 module _ (n : ℕ) (t : List ℕ) (x y : Label) where
-  pub inside : (tableLabels n t).le x y ≡ true → Inside t x y
+  pub inside : (table_labels n t).le x y ≡ true → Inside t x y
   inside e =
       let b = below t x.type y.type in
       let l = leb y.lowest x.lowest in
@@ -94,7 +94,7 @@ module _ (n : ℕ) (t : List ℕ) (x y : Label) where
         highest = leb-true x.highest y.highest (and_right (b && l) h e);
       }
 
-  pub inside-le : Inside t x y → (tableLabels n t).le x y ≡ true
+  pub inside-le : Inside t x y → (table_labels n t).le x y ≡ true
   inside-le i =
       let b = below t x.type y.type in
       let l = leb y.lowest x.lowest in
@@ -103,14 +103,14 @@ module _ (n : ℕ) (t : List ℕ) (x y : Label) where
 
 -- The contradiction: type 0, or an empty range.
 
-pub contradiction-parts : (n : ℕ) (t : List ℕ) (x : Label) → (tableLabels n t).contradiction x ≡ true → (x.type ≡ 0) ⊎ (x.highest < x.lowest)
+pub contradiction-parts : (n : ℕ) (t : List ℕ) (x : Label) → (table_labels n t).contradiction x ≡ true → (x.type ≡ 0) ⊎ (x.highest < x.lowest)
 contradiction-parts n t x e = go (eqb x.type 0) refl e
   where
     go : (b : Bool) → eqb x.type 0 ≡ b → (b || leb (suc x.highest) x.lowest) ≡ true → (x.type ≡ 0) ⊎ (x.highest < x.lowest)
     go true q h = inl (eqb-true x.type 0 q)
     go false q h = inr (leb-true (suc x.highest) x.lowest h)
 
-pub contradiction-from : (n : ℕ) (t : List ℕ) (x : Label) → (x.type ≡ 0) ⊎ (x.highest < x.lowest) → (tableLabels n t).contradiction x ≡ true
+pub contradiction-from : (n : ℕ) (t : List ℕ) (x : Label) → (x.type ≡ 0) ⊎ (x.highest < x.lowest) → (table_labels n t).contradiction x ≡ true
 contradiction-from n t x (inl e) = ap (λ b. b || leb (suc x.highest) x.lowest) (eq-eqb x.type 0 e)
 contradiction-from n t x (inr l) =
     ap (λ b. eqb x.type 0 || b) (le-leb (suc x.highest) x.lowest l) ∙ go (eqb x.type 0)
@@ -142,47 +142,47 @@ module _ (n : ℕ) (t : List ℕ) (ok : accepted n t ≡ true) where
   lawful =
       record {
         L = KnownLabel n;
-        le = λ x y. (tableLabels n t).le x.0 y.0;
-        meet = λ x y. known ((tableLabels n t).meet x.0 y.0);
-        join = λ x y. known ((tableLabels n t).join x.0 y.0);
+        le = λ x y. (table_labels n t).le x.0 y.0;
+        meet = λ x y. known ((table_labels n t).meet x.0 y.0);
+        join = λ x y. known ((table_labels n t).join x.0 y.0);
         top = (plain (n - 1), plain_known n (n - 1) (top-type n t ok));
-        contradiction = λ x. (tableLabels n t).contradiction x.0;
+        contradiction = λ x. (table_labels n t).contradiction x.0;
       }
 
   -- The meet and the join of labels of the table, by components.
 
   module _ (x y : Label) (k : Known n x) (l : Known n y) where
-    pub type-meet : Meet n t x.type y.type ((tableLabels n t).meet x y).type
+    pub type-meet : Meet n t x.type y.type ((table_labels n t).meet x y).type
     type-meet =
         let r : (m : ℕ) × Meet n t x.type y.type m = meet-exists n t ok x.type y.type k.type l.type in
         subst (Meet n t x.type y.type) (sym (ap cell r.1.is)) r.1
 
-    type-join : Join n t x.type y.type ((tableLabels n t).join x y).type
+    type-join : Join n t x.type y.type ((table_labels n t).join x y).type
     type-join =
         let r : (m : ℕ) × Join n t x.type y.type m = join-exists n t ok x.type y.type k.type l.type in
         subst (Join n t x.type y.type) (sym (ap cell r.1.is)) r.1
 
-    pub meet-known : Known n ((tableLabels n t).meet x y)
+    pub meet-known : Known n ((table_labels n t).meet x y)
     meet-known =
         let a : x.lowest ≤ 255 = k.lowest in
         let b : y.lowest ≤ 255 = l.lowest in
         let c : x.highest ≤ 255 = k.highest in
         record { type = type-meet.type; lowest = omega arith; highest = omega arith }
 
-    pub join-known : Known n ((tableLabels n t).join x y)
+    pub join-known : Known n ((table_labels n t).join x y)
     join-known =
         let a : x.lowest ≤ 255 = k.lowest in
         let b : x.highest ≤ 255 = k.highest in
         let c : y.highest ≤ 255 = l.highest in
         record { type = type-join.type; lowest = omega arith; highest = omega arith }
 
-    meet-inside-left : Inside t ((tableLabels n t).meet x y) x
+    meet-inside-left : Inside t ((table_labels n t).meet x y) x
     meet-inside-left = record { type = type-meet.left; lowest = omega arith; highest = omega arith }
 
-    meet-inside-right : Inside t ((tableLabels n t).meet x y) y
+    meet-inside-right : Inside t ((table_labels n t).meet x y) y
     meet-inside-right = record { type = type-meet.right; lowest = omega arith; highest = omega arith }
 
-    meet-holds : (z : Label) → Known n z → Inside t z x → Inside t z y → Inside t z ((tableLabels n t).meet x y)
+    meet-holds : (z : Label) → Known n z → Inside t z x → Inside t z y → Inside t z ((table_labels n t).meet x y)
     meet-holds z m i j =
         let a : x.lowest ≤ z.lowest = i.lowest in
         let b : y.lowest ≤ z.lowest = j.lowest in
@@ -190,13 +190,13 @@ module _ (n : ℕ) (t : List ℕ) (ok : accepted n t ≡ true) where
         let d : z.highest ≤ y.highest = j.highest in
         record { type = type-meet.greatest z.type m.type i.type j.type; lowest = omega arith; highest = omega arith }
 
-    join-inside-left : Inside t x ((tableLabels n t).join x y)
+    join-inside-left : Inside t x ((table_labels n t).join x y)
     join-inside-left = record { type = type-join.left; lowest = omega arith; highest = omega arith }
 
-    join-inside-right : Inside t y ((tableLabels n t).join x y)
+    join-inside-right : Inside t y ((table_labels n t).join x y)
     join-inside-right = record { type = type-join.right; lowest = omega arith; highest = omega arith }
 
-    join-holds : (z : Label) → Known n z → Inside t x z → Inside t y z → Inside t ((tableLabels n t).join x y) z
+    join-holds : (z : Label) → Known n z → Inside t x z → Inside t y z → Inside t ((table_labels n t).join x y) z
     join-holds z m i j =
         let a : z.lowest ≤ x.lowest = i.lowest in
         let b : z.lowest ≤ y.lowest = j.lowest in
@@ -205,17 +205,17 @@ module _ (n : ℕ) (t : List ℕ) (ok : accepted n t ≡ true) where
         record { type = type-join.least z.type m.type i.type j.type; lowest = omega arith; highest = omega arith }
 
   -- what the meet or the join over labels of the table is
-  pub meet-label : (x y : KnownLabel n) → (lawful.meet x y).0 ≡ (tableLabels n t).meet x.0 y.0
-  meet-label x y = known-label ((tableLabels n t).meet x.0 y.0) (meet-known x.0 y.0 x.1 y.1)
+  pub meet-label : (x y : KnownLabel n) → (lawful.meet x y).0 ≡ (table_labels n t).meet x.0 y.0
+  meet-label x y = known-label ((table_labels n t).meet x.0 y.0) (meet-known x.0 y.0 x.1 y.1)
 
-  pub join-label : (x y : KnownLabel n) → (lawful.join x y).0 ≡ (tableLabels n t).join x.0 y.0
-  join-label x y = known-label ((tableLabels n t).join x.0 y.0) (join-known x.0 y.0 x.1 y.1)
+  pub join-label : (x y : KnownLabel n) → (lawful.join x y).0 ≡ (table_labels n t).join x.0 y.0
+  join-label x y = known-label ((table_labels n t).join x.0 y.0) (join-known x.0 y.0 x.1 y.1)
 
-  pub le-reflexive : (x : Label) → Known n x → (tableLabels n t).le x x ≡ true
+  pub le-reflexive : (x : Label) → Known n x → (table_labels n t).le x x ≡ true
   le-reflexive x k =
       inside-le n t x x (record { type = below-reflexive n t ok x.type k.type; lowest = omega arith; highest = omega arith })
 
-  pub le-antisymmetric : (x y : Label) → Known n x → Known n y → (tableLabels n t).le x y ≡ true → (tableLabels n t).le y x ≡ true → x ≡ y
+  pub le-antisymmetric : (x y : Label) → Known n x → Known n y → (table_labels n t).le x y ≡ true → (table_labels n t).le y x ≡ true → x ≡ y
   le-antisymmetric x y k l d e =
       let i = inside n t x y d in
       let j = inside n t y x e in
@@ -225,8 +225,8 @@ module _ (n : ℕ) (t : List ℕ) (ok : accepted n t ≡ true) where
       let f : y.highest ≤ x.highest = j.highest in
       label-parts (below-antisymmetric n t ok x.type y.type k.type l.type i.type j.type) (omega arith) (omega arith)
 
-  pub le-transitive : (x y z : Label) → Known n x → Known n y → Known n z → (tableLabels n t).le x y ≡ true → (tableLabels n t).le y z ≡ true →
-      (tableLabels n t).le x z ≡ true
+  pub le-transitive : (x y z : Label) → Known n x → Known n y → Known n z → (table_labels n t).le x y ≡ true → (table_labels n t).le y z ≡ true →
+      (table_labels n t).le x z ≡ true
   le-transitive x y z k l m d e =
       let i = inside n t x y d in
       let j = inside n t y z e in
@@ -248,23 +248,23 @@ module _ (n : ℕ) (t : List ℕ) (ok : accepted n t ≡ true) where
         le_trans = λ a b c. le-transitive a.0 b.0 c.0 a.1 b.1 c.1;
         le_antisym = λ a b d e. label-path (le-antisymmetric a.0 b.0 a.1 b.1 d e);
         meet_left = λ a b.
-            ap (λ m. (tableLabels n t).le m a.0) (meet-label a b) ∙
+            ap (λ m. (table_labels n t).le m a.0) (meet-label a b) ∙
             inside-le n t _ _ (meet-inside-left a.0 b.0 a.1 b.1);
         meet_right = λ a b.
-            ap (λ m. (tableLabels n t).le m b.0) (meet-label a b) ∙
+            ap (λ m. (table_labels n t).le m b.0) (meet-label a b) ∙
             inside-le n t _ _ (meet-inside-right a.0 b.0 a.1 b.1);
         meet-greatest = λ a b c d e.
-            ap (λ m. (tableLabels n t).le c.0 m) (meet-label a b) ∙
+            ap (λ m. (table_labels n t).le c.0 m) (meet-label a b) ∙
             inside-le n t _ _
             (meet-holds a.0 b.0 a.1 b.1 c.0 c.1 (inside n t c.0 a.0 d) (inside n t c.0 b.0 e));
         join-left = λ a b.
-            ap (λ m. (tableLabels n t).le a.0 m) (join-label a b) ∙
+            ap (λ m. (table_labels n t).le a.0 m) (join-label a b) ∙
             inside-le n t _ _ (join-inside-left a.0 b.0 a.1 b.1);
         join-right = λ a b.
-            ap (λ m. (tableLabels n t).le b.0 m) (join-label a b) ∙
+            ap (λ m. (table_labels n t).le b.0 m) (join-label a b) ∙
             inside-le n t _ _ (join-inside-right a.0 b.0 a.1 b.1);
         join-least = λ a b c d e.
-            ap (λ m. (tableLabels n t).le m c.0) (join-label a b) ∙
+            ap (λ m. (table_labels n t).le m c.0) (join-label a b) ∙
             inside-le n t _ _
             (join-holds a.0 b.0 a.1 b.1 c.0 c.1 (inside n t a.0 c.0 d) (inside n t b.0 c.0 e));
         top-greatest = λ a.

@@ -10,12 +10,12 @@ use lib.ListN.{length, get_or}
 use lib.Dec.{eqb}
 use borrow.Author.Tests.{eq-eqb, eqb-true}
 use Rattle.graphs.proofs.Search.{true-both}
-use Rattle.lattice.specs.Table.{every, found, implies, below, sized, ordered, bounded, accepted, isMeet, isJoin, meet, join, restores, isWanted, wanted, meetBelow, isResidual, residual, admits, filled, boundRow}
+use Rattle.lattice.specs.Table.{every, found, implies, below, sized, ordered, bounded, accepted, is_meet, is_join, meet, join, restores, is_wanted, wanted, meet_below, is_residual, residual, admits, filled, bound_row}
 use Rattle.lattice.specs.Words.{related, Words, Sided}
 use Rattle.lattice.proofs.Every.{and_left, and_right, implies-at, implies-from, every-at, every-all, last-passes, last_found, found_some}
 use Rattle.lattice.proofs.OrderLaws.{Ordered, ordered-facts, side, sided}
 use Rattle.lattice.proofs.Sizes.{size-facts}
-use Rattle.lattice.proofs.Rows.{getD-overwrite, row-bound}
+use Rattle.lattice.proofs.Rows.{get_or-overwrite, row-bound}
 
 -- m is the meet of a and b: their greatest lower bound
 pub record Meet (n : ℕ) (t : List ℕ) (a b m : ℕ) : Type 0 where
@@ -52,14 +52,14 @@ pub meet-restores : (n : ℕ) (t : List ℕ) (p q d m : ℕ) → meet n t d q �
 unfolding restores
 meet-restores n t p q d m e = rw e
 
-pub meet_below : (n : ℕ) (t : List ℕ) (p q d m : ℕ) → meet n t d q ≡ some m → meetBelow n t p q d ≡ below t m p
-unfolding meetBelow
-meet_below n t p q d m e = rw e
+pub meet_below_lem : (n : ℕ) (t : List ℕ) (p q d m : ℕ) → meet n t d q ≡ some m → meet_below n t p q d ≡ below t m p
+unfolding meet_below
+meet_below_lem n t p q d m e = rw e
 
 -- a wanted type is a type
 pub wanted-type : (n : ℕ) (t : List ℕ) (p q c : ℕ) → wanted n t p q ≡ some c → c < n
 unfolding wanted
-wanted-type n t p q c e = (last-passes (isWanted n t p q) n c e).0
+wanted-type n t p q c e = (last-passes (is_wanted n t p q) n c e).0
 
 some_same : {a b : ℕ} → ◌≡◌ {A = Option ℕ} (some a) (some b) → a ≡ b
 some_same e = cc
@@ -113,9 +113,9 @@ module _ (n : ℕ) (t : List ℕ) (ok : accepted n t ≡ true) where
 
   -- what the search for a meet finds is the meet
   meet-sound : (a b m : ℕ) → meet n t a b ≡ some m → Meet n t a b m
-  unfolding meet isMeet
+  unfolding meet is_meet
   meet-sound a b m e =
-      let r : (m < n) × (isMeet n t a b m ≡ true) = last-passes (isMeet n t a b) n m e in
+      let r : (m < n) × (is_meet n t a b m ≡ true) = last-passes (is_meet n t a b) n m e in
       let sides : below t m a && below t m b ≡ true = and_left (below t m a && below t m b) _ r.1 in
       let most : every n (λ d. implies (below t d a && below t d b) (below t d m)) ≡ true =
       and_right (below t m a && below t m b) _ r.1 in
@@ -136,9 +136,9 @@ module _ (n : ℕ) (t : List ℕ) (ok : accepted n t ≡ true) where
       (r.0, meet-sound a b r.0 r.1)
 
   join-sound : (a b m : ℕ) → join n t a b ≡ some m → Join n t a b m
-  unfolding join isJoin
+  unfolding join is_join
   join-sound a b m e =
-      let r : (m < n) × (isJoin n t a b m ≡ true) = last-passes (isJoin n t a b) n m e in
+      let r : (m < n) × (is_join n t a b m ≡ true) = last-passes (is_join n t a b) n m e in
       let sides : below t a m && below t b m ≡ true = and_left (below t a m && below t b m) _ r.1 in
       let most : every n (λ d. implies (below t a d && below t b d) (below t m d)) ≡ true =
       and_right (below t a m && below t b m) _ r.1 in
@@ -183,9 +183,9 @@ module _ (n : ℕ) (t : List ℕ) (ok : accepted n t ≡ true) where
 
   -- what the search for a wanted type finds is the wanted type
   pub wanted-sound : (p q c : ℕ) → q < n → wanted n t p q ≡ some c → Wanted n t p q c
-  unfolding wanted isWanted
+  unfolding wanted is_wanted
   wanted-sound p q c lq e =
-      let r : (c < n) × (isWanted n t p q c ≡ true) = last-passes (isWanted n t p q) n c e in
+      let r : (c < n) × (is_wanted n t p q c ≡ true) = last-passes (is_wanted n t p q) n c e in
       let most : every n (λ d. implies (restores n t p q d) (below t d c)) ≡ true = and_right (restores n t p q c) _ r.1 in
       record {
         is = e;
@@ -197,12 +197,12 @@ module _ (n : ℕ) (t : List ℕ) (ok : accepted n t ≡ true) where
   -- the wanted type is the one greatest type whose meet with q is p
   pub wanted-unique : (p q c : ℕ) → q < n → c < n → meet n t c q ≡ some p
       → ((d : ℕ) → d < n → meet n t d q ≡ some p → below t d c ≡ true) → wanted n t p q ≡ some c
-  unfolding wanted isWanted
+  unfolding wanted is_wanted
   wanted-unique p q c lq lc exact most =
-      let passes : isWanted n t p q c ≡ true =
+      let passes : is_wanted n t p q c ≡ true =
       true-both (restores n t p q c) (every n (λ d. implies (restores n t p q d) (below t d c))) (meet-restoring p q c exact)
       (every-all _ n λ d l. implies-from (restores n t p q d) (below t d c) λ e. most d l (restores-meet p q d lq l e)) in
-      let r : (i : ℕ) × (wanted n t p q ≡ some i) = found_some (wanted n t p q) (last_found (isWanted n t p q) n c lc passes) in
+      let r : (i : ℕ) × (wanted n t p q ≡ some i) = found_some (wanted n t p q) (last_found (is_wanted n t p q) n c lc passes) in
       let i : Wanted n t p q r.0 = wanted-sound p q r.0 lq r.1 in
       i.is ∙
       ap some
@@ -224,32 +224,32 @@ module _ (n : ℕ) (t : List ℕ) (ok : accepted n t ≡ true) where
       subst (λ (c : ℕ). below t d c ≡ true) same (below-reflexive d s)
 
   residual-sound : (p q c : ℕ) → residual n t p q ≡ some c → Residual n t p q c
-  unfolding residual isResidual
+  unfolding residual is_residual
   residual-sound p q c e =
-      let r : (c < n) × (isResidual n t p q c ≡ true) = last-passes (isResidual n t p q) n c e in
-      let most : every n (λ d. implies (meetBelow n t p q d) (below t d c)) ≡ true = and_right (meetBelow n t p q c) _ r.1 in
+      let r : (c < n) × (is_residual n t p q c ≡ true) = last-passes (is_residual n t p q) n c e in
+      let most : every n (λ d. implies (meet_below n t p q d) (below t d c)) ≡ true = and_right (meet_below n t p q c) _ r.1 in
       record {
         is = e;
         type = r.0;
-        under = λ m f. sym (meet_below n t p q c m f) ∙ and_left (meetBelow n t p q c) _ r.1;
+        under = λ m f. sym (meet_below_lem n t p q c m f) ∙ and_left (meet_below n t p q c) _ r.1;
         greatest = λ d m l f g.
-            implies-at (meetBelow n t p q d) (below t d c) (every-at _ n d most l) (meet_below n t p q d m f ∙ g);
+            implies-at (meet_below n t p q d) (below t d c) (every-at _ n d most l) (meet_below_lem n t p q d m f ∙ g);
       }
 
   -- the residual is the one greatest type whose meet with q is below p
   pub residual-unique : (p q c : ℕ) → q < n → c < n → ((m : ℕ) → meet n t c q ≡ some m → below t m p ≡ true)
       → ((d m : ℕ) → d < n → meet n t d q ≡ some m → below t m p ≡ true → below t d c ≡ true) → residual n t p q ≡ some c
-  unfolding residual isResidual
+  unfolding residual is_residual
   residual-unique p q c lq lc under most =
       let m : (k : ℕ) × Meet n t c q k = meet-exists c q lc lq in
-      let passes : isResidual n t p q c ≡ true =
-      true-both (meetBelow n t p q c) (every n (λ d. implies (meetBelow n t p q d) (below t d c)))
-      (meet_below n t p q c m.0 m.1.is ∙ under m.0 m.1.is)
+      let passes : is_residual n t p q c ≡ true =
+      true-both (meet_below n t p q c) (every n (λ d. implies (meet_below n t p q d) (below t d c)))
+      (meet_below_lem n t p q c m.0 m.1.is ∙ under m.0 m.1.is)
       (every-all _ n λ d l.
-      implies-from (meetBelow n t p q d) (below t d c) λ e.
+      implies-from (meet_below n t p q d) (below t d c) λ e.
       let k : (i : ℕ) × Meet n t d q i = meet-exists d q l lq in
-      most d k.0 l k.1.is (sym (meet_below n t p q d k.0 k.1.is) ∙ e)) in
-      let r : (i : ℕ) × (residual n t p q ≡ some i) = found_some (residual n t p q) (last_found (isResidual n t p q) n c lc passes) in
+      most d k.0 l k.1.is (sym (meet_below_lem n t p q d k.0 k.1.is) ∙ e)) in
+      let r : (i : ℕ) × (residual n t p q ≡ some i) = found_some (residual n t p q) (last_found (is_residual n t p q) n c lc passes) in
       let i : Residual n t p q r.0 = residual-sound p q r.0 r.1 in
       let k : (j : ℕ) × Meet n t r.0 q j = meet-exists r.0 q i.type lq in
       i.is ∙
@@ -284,7 +284,7 @@ module _ (n : ℕ) (t : List ℕ) (ok : accepted n t ≡ true) where
   unfolding filled
   filled-cell bound rows e a b m l s f =
       let few : n ≤ 64 = accepted-size.1 in
-      rw (accepted-order, getD-overwrite n (boundRow n bound) rows a l (omega arith), row-bound n bound a b s (omega arith), f)
+      rw (accepted-order, get_or-overwrite n (bound_row n bound) rows a l (omega arith), row-bound n bound a b s (omega arith), f)
 
   -- cell (a, b) of the filled table of meets is the meet of a and b
   pub meets-cell : (rows : List (List ℕ)) → length rows ≡ 64 → (a b : ℕ) → a < n → b < n

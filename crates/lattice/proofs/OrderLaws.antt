@@ -11,7 +11,7 @@ use lib.Dec.{leb, eqb}
 use borrow.Author.Tests.{eq-eqb, eqb-true, le-leb, leb-true}
 use Rattle.graphs.proofs.Search.{same_test, true-both}
 use Rattle.lattice.specs.Table.{every, implies, below, ordered, confined, reflexive, antisymmetric, transitive, least, greatest}
-use Rattle.lattice.specs.Words.{word, related, Words, bit, turned, part_of, pairOrdered, rowOrdered, Sided}
+use Rattle.lattice.specs.Words.{word, related, Words, bit, turned, part_of, pair_ordered, row_ordered, Sided}
 use Rattle.lattice.proofs.Every.{and_left, and_right, implies-at, implies-from, every-at, every-all, true-not-false, below_or_not}
 use Rattle.lattice.proofs.WordLaws.{word_same, word_cut, bits-part-of, part-of-bits, short-bits, bits-short}
 use Rattle.lattice.proofs.Bits.{bit_word}
@@ -86,9 +86,9 @@ module _ (n : ℕ) (t ws : List ℕ) (few : n ≤ 64) (words : Words n t false w
   pub row-bit : (i j : ℕ) → i < n → j < 64 → bit (get_or ws i 0) j ≡ below t j i
   row-bit i j l s = ap (λ (w : ℕ). bit w j) (words i l) ∙ bit_word 64 (related t false i) j s
 
-  pair-facts : (i j : ℕ) → i < n → j < n → pairOrdered ws i j ≡ true
+  pair-facts : (i j : ℕ) → i < n → j < n → pair_ordered ws i j ≡ true
       → ((k : ℕ) → k < 64 → below t k j ≡ true → below t k i ≡ true) × (below t i j ≡ true → i ≡ j)
-  unfolding pairOrdered
+  unfolding pair_ordered
   pair-facts i j l s h =
       let test : Bool = implies (bit (get_or ws j 0) i) (eqb i j) in
       let sub : part_of (word 64 (related t false j)) (word 64 (related t false i)) ≡ true =
@@ -100,8 +100,8 @@ module _ (n : ℕ) (t ws : List ℕ) (few : n ≤ 64) (words : Words n t false w
             (row-bit j i s (omega arith) ∙ f)),
       )
 
-  facts-pair : Ordered n t → (i j : ℕ) → i < n → j < n → below t j i ≡ true → pairOrdered ws i j ≡ true
-  unfolding pairOrdered
+  facts-pair : Ordered n t → (i j : ℕ) → i < n → j < n → below t j i ≡ true → pair_ordered ws i j ≡ true
+  unfolding pair_ordered
   facts-pair o i j l s e =
       true-both (part_of (get_or ws j 0) (get_or ws i 0)) (implies (bit (get_or ws j 0) i) (eqb i j))
       (rw (words j s, words i l)
@@ -109,15 +109,15 @@ module _ (n : ℕ) (t ws : List ℕ) (few : n ≤ 64) (words : Words n t false w
       (implies-from (bit (get_or ws j 0) i) (eqb i j) λ f. eq-eqb i j (o.anti i j l s (sym (row-bit j i s (omega arith)) ∙ f) e))
 
   -- what the tests of row i say
-  row-facts : (i : ℕ) → i < n → rowOrdered n ws i ≡ true
+  row-facts : (i : ℕ) → i < n → row_ordered n ws i ≡ true
       → ((j : ℕ) → j < 64 → below t j i ≡ true → j < n) × (below t i i ≡ true) × (below t 0 i ≡ true) × (below t i (n - 1) ≡ true)
-      × ((j : ℕ) → j < n → below t j i ≡ true → pairOrdered ws i j ≡ true)
-  unfolding rowOrdered
+      × ((j : ℕ) → j < n → below t j i ≡ true → pair_ordered ws i j ≡ true)
+  unfolding row_ordered
   row-facts i l h =
       let w : ℕ = get_or ws i 0 in
       let short : Bool = leb (w / 2 ^ (n - 1)) 1 in
       let under : Bool = bit (get_or ws (n - 1) 0) i in
-      let pairs : Bool = every 64 (λ j. implies (bit w j) (pairOrdered ws i j)) in
+      let pairs : Bool = every 64 (λ j. implies (bit w j) (pair_ordered ws i j)) in
       let h₃ : short && bit w i && bit w 0 && under ≡ true = and_left _ pairs h in
       let h₂ : short && bit w i && bit w 0 ≡ true = and_left _ under h₃ in
       let h₁ : short && bit w i ≡ true = and_left _ (bit w 0) h₂ in
@@ -127,10 +127,10 @@ module _ (n : ℕ) (t ws : List ℕ) (few : n ≤ 64) (words : Words n t false w
         sym (row-bit i i l (omega arith)) ∙ and_right short (bit w i) h₁,
         sym (row-bit i 0 l (omega arith)) ∙ and_right (short && bit w i) (bit w 0) h₂,
         sym (row-bit (n - 1) i (omega arith) (omega arith)) ∙ and_right (short && bit w i && bit w 0) under h₃,
-        λ j s e. implies-at (bit w j) (pairOrdered ws i j) (every-at _ 64 j all (omega arith)) (row-bit i j l (omega arith) ∙ e),
+        λ j s e. implies-at (bit w j) (pair_ordered ws i j) (every-at _ 64 j all (omega arith)) (row-bit i j l (omega arith) ∙ e),
       )
 
-  pub rows-facts : every n (rowOrdered n ws) ≡ true → Ordered n t
+  pub rows-facts : every n (row_ordered n ws) ≡ true → Ordered n t
   rows-facts h =
       let row : (i : ℕ) (l : i < n) → _ = λ i l. row-facts i l (every-at _ n i h l) in
       let pair : (i j : ℕ) (l : i < n) (s : j < n) → below t j i ≡ true → _ =
@@ -144,15 +144,15 @@ module _ (n : ℕ) (t ws : List ℕ) (few : n ≤ 64) (words : Words n t false w
         top = λ i l. (row i l).3;
       }
 
-  pub facts-rows : Ordered n t → every n (rowOrdered n ws) ≡ true
-  unfolding rowOrdered
+  pub facts-rows : Ordered n t → every n (row_ordered n ws) ≡ true
+  unfolding row_ordered
   facts-rows o =
       every-all _ n λ i l.
       let short : leb (get_or ws i 0 / 2 ^ (n - 1)) 1 ≡ true =
       rw (words i l) (bits-short n 64 (related t false i) (omega arith) few λ j. o.inside i j l) in
-      let pairs : every 64 (λ j. implies (bit (get_or ws i 0) j) (pairOrdered ws i j)) ≡ true =
+      let pairs : every 64 (λ j. implies (bit (get_or ws i 0) j) (pair_ordered ws i j)) ≡ true =
       every-all _ 64 λ j s.
-      implies-from (bit (get_or ws i 0) j) (pairOrdered ws i j) λ e.
+      implies-from (bit (get_or ws i 0) j) (pair_ordered ws i j) λ e.
       let f : below t j i ≡ true = sym (row-bit i j l s) ∙ e in
       facts-pair o i j l (o.inside i j l s f) f in
       rw (
@@ -166,7 +166,7 @@ module _ (n : ℕ) (t ws : List ℕ) (few : n ≤ 64) (words : Words n t false w
         pairs,
       )
 
-  pub rows-ordered : every n (rowOrdered n ws) ≡ ordered n t
+  pub rows-ordered : every n (row_ordered n ws) ≡ ordered n t
   rows-ordered = same_test _ _ (λ h. facts-ordered n t (rows-facts h)) (λ h. facts-rows (ordered-facts n t h))
 
 -- off the table no bit stands

@@ -1,4 +1,4 @@
--- This file is about ranges as sets of levels (document 02, Paper 7): the order, joins and meets of `withRanges`, which compare and combine
+-- This file is about ranges as sets of levels (document 02, Paper 7): the order, joins and meets of `with_ranges`, which compare and combine
 -- the lowest and the highest level, are those of the sets of levels inside. A range is non-empty when its lowest level is at most its
 -- highest; every range of an accepted record is.
 use Prim.Native.Nat.{ℕ, suc, ◌<◌, ◌≤◌}
@@ -11,7 +11,7 @@ use borrow.Author.Tests.{le-leb, leb-true}
 use Rattle.graphs.specs.Label.{Labels}
 use Rattle.graphs.proofs.Search.{true-both}
 use Rattle.lattice.specs.Label.{Ranged}
-use Rattle.lattice.specs.Labels.{withRanges, LevelIn, NonEmpty, RangeInside}
+use Rattle.lattice.specs.Labels.{with_ranges, LevelIn, NonEmpty, RangeInside}
 use Rattle.lattice.proofs.Every.{below_or_not, and_left, and_right}
 
 module _ {T : Type 0} (x y : Ranged T) where
@@ -26,7 +26,7 @@ module _ {T : Type 0} (x y : Ranged T) where
 
 module _ (𝓣 : Labels) (x y : Ranged 𝓣.L) where
   -- "Below now also asks that the range lies inside"
-  pub below-range : NonEmpty x → ((withRanges 𝓣).le x y ≡ true) ↔ ((𝓣.le x.type y.type ≡ true) × RangeInside x y)
+  pub below-range : NonEmpty x → ((with_ranges 𝓣).le x y ≡ true) ↔ ((𝓣.le x.type y.type ≡ true) × RangeInside x y)
   below-range some_level = (
     λ e. (
       and_left b l (and_left (b && l) h e),
@@ -48,28 +48,28 @@ module _ (𝓣 : Labels) (x y : Ranged 𝓣.L) where
       h = leb x.highest y.highest
 
   -- "the common part takes the smallest range holding both": the range holds both.
-  pub join-range-holds : RangeInside x ((withRanges 𝓣).join x y) × RangeInside y ((withRanges 𝓣).join x y)
+  pub join-range-holds : RangeInside x ((with_ranges 𝓣).join x y) × RangeInside y ((with_ranges 𝓣).join x y)
   join-range-holds = (λ l (a, b). (omega arith, omega arith), λ l (a, b). (omega arith, omega arith))
 
   -- The range lies inside every range that holds both.
   pub join-range-smallest : NonEmpty x → NonEmpty y → (z : Ranged 𝓣.L) → RangeInside x z → RangeInside y z →
-      RangeInside ((withRanges 𝓣).join x y) z
+      RangeInside ((with_ranges 𝓣).join x y) z
   join-range-smallest some-x some-y z in-x in-y =
       let (a, b) = ends-inside x z some-x in-x in
       let (c, d) = ends-inside y z some-y in-y in
-      inside-ends ((withRanges 𝓣).join x y) z (omega arith) (omega arith)
+      inside-ends ((with_ranges 𝓣).join x y) z (omega arith) (omega arith)
 
   -- "the combination the overlap"
-  pub meet-range : (l : ℕ) → LevelIn ((withRanges 𝓣).meet x y) l ↔ (LevelIn x l × LevelIn y l)
+  pub meet-range : (l : ℕ) → LevelIn ((with_ranges 𝓣).meet x y) l ↔ (LevelIn x l × LevelIn y l)
   meet-range l = (λ (a, b). ((omega arith, omega arith), (omega arith, omega arith)), λ ((a, b), (c, d)). (omega arith, omega arith))
 
   -- "and an empty overlap is a clash": the meet is a contradiction exactly where that of the types is or no level is inside both
-  pub meet-range-clash : ((withRanges 𝓣).contradiction ((withRanges 𝓣).meet x y) ≡ true) ↔
+  pub meet-range-clash : ((with_ranges 𝓣).contradiction ((with_ranges 𝓣).meet x y) ≡ true) ↔
       ((𝓣.contradiction (𝓣.meet x.type y.type) ≡ true) ⊎ ((l : ℕ) → LevelIn x l → LevelIn y l → ⊥))
   meet-range-clash = (λ e. parts (𝓣.contradiction (𝓣.meet x.type y.type)) e, from (𝓣.contradiction (𝓣.meet x.type y.type)))
     where
       m : Ranged 𝓣.L
-      m = (withRanges 𝓣).meet x y
+      m = (with_ranges 𝓣).meet x y
 
       Disjoint : Type 0
       Disjoint = (l : ℕ) → LevelIn x l → LevelIn y l → ⊥

@@ -11,7 +11,7 @@ use lib.Dec.{leb}
 use Rattle.graphs.specs.Label.{Labels}
 use Rattle.graphs.specs.Graph.{Graph, Corefer, Below, SameMeaning}
 use Rattle.graphs.specs.Rows.{Row}
-use Rattle.graphs.specs.Number.{Canonical, manyNodes, manyLinks, written, canonical, counted, row_of, linkCount, visit}
+use Rattle.graphs.specs.Number.{Canonical, many_nodes, many_links, written, canonical, counted, row_of, link_count, visit}
 use Rattle.graphs.specs.Unify.{Joined, left, right, flip, chain, down, Unified, cycle, clash, unified}
 
 -- a graph with other labels
@@ -19,46 +19,46 @@ abbrev pub relabel : {K L A : Type 0} → (K → L) → Graph K A → Graph L A
 relabel f g = record { root = g.root; label = λ v. f (g.label v); link = g.link }
 
 -- rows and forms with other labels
-abbrev pub relabelRow : {K L : Type 0} → (K → L) → Row K → Row L
-relabelRow f r = (f r.0, r.1)
+abbrev pub relabel_row : {K L : Type 0} → (K → L) → Row K → Row L
+relabel_row f r = (f r.0, r.1)
 
-abbrev pub relabelForm : {K L : Type 0} → (K → L) → Canonical K → Canonical L
-relabelForm f manyNodes = manyNodes
-relabelForm f manyLinks = manyLinks
-relabelForm f (written rows) = written (map (relabelRow f) rows)
+abbrev pub relabel_form : {K L : Type 0} → (K → L) → Canonical K → Canonical L
+relabel_form f many_nodes = many_nodes
+relabel_form f many_links = many_links
+relabel_form f (written rows) = written (map (relabel_row f) rows)
 
 -- the written form of a graph with other labels is its written form with other labels
 pub canonical-relabel : {K L A : Type 0} (f : K → L) (same : A → A → Bool) (g : Graph K A) →
-    canonical same (relabel f g) ≡ relabelForm f (canonical same g)
+    canonical same (relabel f g) ≡ relabel_form f (canonical same g)
 unfolding canonical row_of
 canonical-relabel {K} {L} {A} f same g = go (visit same g.link 255 g.root [])
   where
     fits : (now : List A) (few : Bool) →
-        cond few (written (map (row_of same (relabel f g) (reverse now)) (reverse now))) manyLinks ≡
-        relabelForm f (cond few (written (map (row_of same g (reverse now)) (reverse now))) manyLinks)
-    fits now true = ap written (sym (map-map (relabelRow f) (row_of same g (reverse now)) (reverse now)))
+        cond few (written (map (row_of same (relabel f g) (reverse now)) (reverse now))) many_links ≡
+        relabel_form f (cond few (written (map (row_of same g (reverse now)) (reverse now))) many_links)
+    fits now true = ap written (sym (map-map (relabel_row f) (row_of same g (reverse now)) (reverse now)))
     fits now false = refl
 
-    go : (o : Option (List A)) → counted same (relabel f g) o ≡ relabelForm f (counted same g o)
+    go : (o : Option (List A)) → counted same (relabel f g) o ≡ relabel_form f (counted same g o)
     go none = refl
-    go (some now) = fits now (leb (linkCount g.link now) 2048)
+    go (some now) = fits now (leb (link_count g.link now) 2048)
 
 -- what unification gives, with other labels
-abbrev pub relabelUnified : {K L N : Type 0} → (K → L) → Unified K N → Unified L N
-relabelUnified f cycle = cycle
-relabelUnified f clash = clash
-relabelUnified f (unified u) = unified (relabel f u)
+abbrev pub relabel_unified : {K L N : Type 0} → (K → L) → Unified K N → Unified L N
+relabel_unified f cycle = cycle
+relabel_unified f clash = clash
+relabel_unified f (unified u) = unified (relabel f u)
 
 module _ {K L N : Type 0} (f : K → L) where
-  pub relabel-cycle : (o : Unified K N) → (relabelUnified f o ≡ cycle) ↔ (o ≡ cycle)
+  pub relabel-cycle : (o : Unified K N) → (relabel_unified f o ≡ cycle) ↔ (o ≡ cycle)
   relabel-cycle cycle = (λ _. refl, λ _. refl)
-  relabel-cycle clash = (λ e. let z : ◌≡◌ {A = ℕ} 0 1 = cc in absurd (omega arith), λ e. ap (relabelUnified f) e)
-  relabel-cycle (unified u) = (λ e. let z : ◌≡◌ {A = ℕ} 0 1 = cc in absurd (omega arith), λ e. ap (relabelUnified f) e)
+  relabel-cycle clash = (λ e. let z : ◌≡◌ {A = ℕ} 0 1 = cc in absurd (omega arith), λ e. ap (relabel_unified f) e)
+  relabel-cycle (unified u) = (λ e. let z : ◌≡◌ {A = ℕ} 0 1 = cc in absurd (omega arith), λ e. ap (relabel_unified f) e)
 
-  pub relabel-clash : (o : Unified K N) → (relabelUnified f o ≡ clash) ↔ (o ≡ clash)
-  relabel-clash cycle = (λ e. let z : ◌≡◌ {A = ℕ} 0 1 = cc in absurd (omega arith), λ e. ap (relabelUnified f) e)
+  pub relabel-clash : (o : Unified K N) → (relabel_unified f o ≡ clash) ↔ (o ≡ clash)
+  relabel-clash cycle = (λ e. let z : ◌≡◌ {A = ℕ} 0 1 = cc in absurd (omega arith), λ e. ap (relabel_unified f) e)
   relabel-clash clash = (λ _. refl, λ _. refl)
-  relabel-clash (unified u) = (λ e. let z : ◌≡◌ {A = ℕ} 0 1 = cc in absurd (omega arith), λ e. ap (relabelUnified f) e)
+  relabel-clash (unified u) = (λ e. let z : ◌≡◌ {A = ℕ} 0 1 = cc in absurd (omega arith), λ e. ap (relabel_unified f) e)
 
 -- Which paths are joined depends on which corefer, and on no label.
 module _ {K L A B C D : Type 0} (g : Graph K A) (h : Graph K B) (k : Graph L C) (m : Graph L D)

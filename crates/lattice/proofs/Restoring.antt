@@ -11,8 +11,8 @@ use lib.Dec.{eqb}
 use lib.Bits.{bit_and, bit_or, and_comm, and_self}
 use borrow.Author.Tests.{eq-eqb, ne_eqb, eqb-true, not-true}
 use Rattle.graphs.proofs.Search.{same_test, true-both}
-use Rattle.lattice.specs.Table.{every, implies, below, accepted, restores, isWanted, wanted, cell, meet}
-use Rattle.lattice.specs.Words.{related, Words, bit, without, part_of, wordRestores, Restoring, WantedOver, holder, Sided, Inside}
+use Rattle.lattice.specs.Table.{every, implies, below, accepted, restores, is_wanted, wanted, cell, meet}
+use Rattle.lattice.specs.Words.{related, Words, bit, without, part_of, word_restores, Restoring, WantedOver, holder, Sided, Inside}
 use Rattle.lattice.proofs.Every.{and_left, and_right, implies-at, implies-from, every-at, every-all, true-not-false, not-false-true, last-same}
 use Rattle.lattice.proofs.WordLaws.{word_same, word_and, bits-part-of}
 use Rattle.lattice.proofs.Bits.{no-bit, part-bit, part-from}
@@ -48,7 +48,7 @@ module _ (ws : List ℕ) (lower over k u : ℕ) (r : Restoring k ws lower over u
   unfolding every
   restoring-kept e m =
       rw (add-one, r m, ne_eqb (bit_and (get_or ws k 0) over) lower e)
-      (sym (and-true (every k λ c. implies (wordRestores ws lower over c) (part_of (get_or ws c 0) m))))
+      (sym (and-true (every k λ c. implies (word_restores ws lower over c) (part_of (get_or ws c 0) m))))
 
   pub restoring-done : (n : ℕ) → k ≤ n → n ≤ k → Restoring n ws lower over u
   restoring-done n l s = let e : k ≡ n = omega arith in subst (λ (i : ℕ). Restoring i ws lower over u) e r
@@ -105,11 +105,11 @@ module _ (n : ℕ) (t ws : List ℕ) (ok : accepted n t ≡ true) (words : Words
       common-word d q r.0 ld lq r.1 ∙ ap (λ (i : ℕ). get_or ws i 0) (sym (ap cell r.1.is))
 
   -- the test on words decides whether the meet of d and q is p
-  restores-test : (p q d : ℕ) → p < n → q < n → d < n → wordRestores ws (get_or ws p 0) (get_or ws q 0) d ≡ restores n t p q d
+  restores-test : (p q d : ℕ) → p < n → q < n → d < n → word_restores ws (get_or ws p 0) (get_or ws q 0) d ≡ restores n t p q d
   restores-test p q d lp lq ld =
       let r : (m : ℕ) × Meet n t d q m = meet-exists n t ok d q ld lq in
       let common : bit_and (get_or ws d 0) (get_or ws q 0) ≡ get_or ws r.0 0 = common-word d q r.0 ld lq r.1 in
-      same_test (wordRestores ws (get_or ws p 0) (get_or ws q 0) d) (eqb r.0 p)
+      same_test (word_restores ws (get_or ws p 0) (get_or ws q 0) d) (eqb r.0 p)
       (λ e. eq-eqb r.0 p (one_word r.0 p r.1.type lp (sym common ∙ eqb-true _ _ e)))
       (λ e. eq-eqb _ _ (common ∙ ap (λ (i : ℕ). get_or ws i 0) (eqb-true r.0 p e))) ∙
       sym (meet-restores n t p q d r.0 r.1.is)
@@ -120,11 +120,11 @@ module _ (n : ℕ) (t ws : List ℕ) (ok : accepted n t ≡ true) (words : Words
     all-part m each =
         all m ∙
         every-all _ n λ d l.
-        implies-from (wordRestores ws (get_or ws p 0) (get_or ws q 0) d) (part_of (get_or ws d 0) m) λ e. each d l (sym (restores-test p q d lp lq l) ∙ e)
+        implies-from (word_restores ws (get_or ws p 0) (get_or ws q 0) d) (part_of (get_or ws d 0) m) λ e. each d l (sym (restores-test p q d lp lq l) ∙ e)
 
     part-all : (m d : ℕ) → part_of u m ≡ true → d < n → restores n t p q d ≡ true → part_of (get_or ws d 0) m ≡ true
     part-all m d e l f =
-        implies-at (wordRestores ws (get_or ws p 0) (get_or ws q 0) d) (part_of (get_or ws d 0) m) (every-at _ n d (sym (all m) ∙ e) l)
+        implies-at (word_restores ws (get_or ws p 0) (get_or ws q 0) d) (part_of (get_or ws d 0) m) (every-at _ n d (sym (all m) ∙ e) l)
         (restores-test p q d lp lq l ∙ f)
 
     all-inside : Inside n u
@@ -157,8 +157,8 @@ module _ (n : ℕ) (t ws : List ℕ) (ok : accepted n t ≡ true) (words : Words
         not-bit true h = absurd (h refl)
         not-bit false h = refl
 
-    wanted-test : (c : ℕ) → c < n → eqb (get_or ws c 0) u ≡ isWanted n t p q c
-    unfolding isWanted
+    wanted-test : (c : ℕ) → c < n → eqb (get_or ws c 0) u ≡ is_wanted n t p q c
+    unfolding is_wanted
     wanted-test c l =
         same_test (eqb (get_or ws c 0) u) (restores n t p q c && every n (λ d. implies (restores n t p q d) (below t d c)))
         (λ h.

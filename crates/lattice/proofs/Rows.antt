@@ -13,8 +13,8 @@ use lib.Seq.{ext_get_or, get_or_at, get_or-set_same, get_or-set_other}
 use lib.Dec.{leb, ltb, eqb}
 use borrow.Author.Count.{below_more}
 use borrow.Author.Tests.{le-leb, lt-leb, leb-true, lt-ltb}
-use Rattle.lattice.specs.Table.{found, cell, boundRow, overwrite, upto}
-use Rattle.lattice.specs.Words.{allFound, holder}
+use Rattle.lattice.specs.Table.{found, cell, bound_row, overwrite, upto}
+use Rattle.lattice.specs.Words.{all_found, holder}
 use Rattle.lattice.proofs.Every.{every-same, below_or_not, last-passes}
 
 length-upto : (k : ℕ) → length (upto k) ≡ k
@@ -22,12 +22,12 @@ unfolding upto
 length-upto zero = refl
 length-upto (suc k) = length-append (upto k) (k ∷ []) ∙ omega (arith, length-upto k)
 
-getD-upto : (k j : ℕ) → j < k → get_or (upto k) j 0 ≡ j
+get_or-upto : (k j : ℕ) → j < k → get_or (upto k) j 0 ≡ j
 unfolding upto
-getD-upto zero j l = absurd (not-suc-le-zero l)
-getD-upto (suc k) j l =
+get_or-upto zero j l = absurd (not-suc-le-zero l)
+get_or-upto (suc k) j l =
     ⊎_elim (λ e. rw e (get_or_at (upto k) k [] 0 k (length-upto k)))
-    (λ s. get_or-append (upto k) (k ∷ []) 0 j (omega (arith, length-upto k)) ∙ getD-upto k j s)
+    (λ s. get_or-append (upto k) (k ∷ []) 0 j (omega (arith, length-upto k)) ∙ get_or-upto k j s)
     (eq-or-lt_of_le (le_of_suc-le-suc l))
 
 get_d_map : {A : Type 0} (f : ℕ → A) (l : List ℕ) (i : ℕ) (d : ℕ) (e : A) → i < length l → get_or (map f l) i e ≡ f (get_or l i d)
@@ -40,24 +40,24 @@ map_same f g [] h = refl
 map_same f g (x ∷ xs) h = let e : map f xs ≡ map g xs = map_same f g xs h in let k : f x ≡ g x = h x in cc
 
 module _ (n : ℕ) (bound : ℕ → ℕ → Option ℕ) (a : ℕ) where
-  pub length-row : length (boundRow n bound a) ≡ 64
-  unfolding boundRow
+  pub length-row : length (bound_row n bound a) ≡ 64
+  unfolding bound_row
   length-row = length-map (upto 64) _ ∙ length-upto 64
 
-  row-cell : (b : ℕ) → b < 64 → get_or (boundRow n bound a) b 0 ≡ cond (leb (suc b) n) (cell (bound a b)) 0
-  unfolding boundRow
+  row-cell : (b : ℕ) → b < 64 → get_or (bound_row n bound a) b 0 ≡ cond (leb (suc b) n) (cell (bound a b)) 0
+  unfolding bound_row
   row-cell b l =
       get_d_map (λ b. cond (leb (suc b) n) (cell (bound a b)) 0) (upto 64) b 0 0 (omega (arith, length-upto 64)) ∙
-      ap (λ (x : ℕ). cond (leb (suc x) n) (cell (bound a x)) 0) (getD-upto 64 b l)
+      ap (λ (x : ℕ). cond (leb (suc x) n) (cell (bound a x)) 0) (get_or-upto 64 b l)
 
-  pub row-bound : (b : ℕ) → b < n → b < 64 → get_or (boundRow n bound a) b 0 ≡ cell (bound a b)
+  pub row-bound : (b : ℕ) → b < n → b < 64 → get_or (bound_row n bound a) b 0 ≡ cell (bound a b)
   row-bound b l s = row-cell b s ∙ rw (le-leb (suc b) n l)
 
   -- a list of 64 with the bounds below n, and 0 elsewhere, is the row
   pub row_made : (row : List ℕ) → length row ≡ 64 → ((b : ℕ) → b < n → get_or row b 0 ≡ cell (bound a b))
-      → ((b : ℕ) → n ≤ b → b < 64 → get_or row b 0 ≡ 0) → row ≡ boundRow n bound a
+      → ((b : ℕ) → n ≤ b → b < 64 → get_or row b 0 ≡ 0) → row ≡ bound_row n bound a
   row_made row e low high =
-      ext_get_or 0 row (boundRow n bound a) (e ∙ sym length-row) λ b l.
+      ext_get_or 0 row (bound_row n bound a) (e ∙ sym length-row) λ b l.
       let s : b < 64 = omega arith in
       ⊎_elim (λ r. low b r ∙ sym (row-bound b r s)) (λ r. high b r s ∙ sym (row-cell b s ∙ rw (lt-leb (suc b) n (omega arith))))
       (below_or_not b n)
@@ -66,8 +66,8 @@ cell-found : (o : Option ℕ) → ((c : ℕ) → o ≡ some c → c < 64) → lt
 cell-found none h = refl
 cell-found (some c) h = lt-ltb c 64 (h c refl)
 
-row_same : (n : ℕ) (f g : ℕ → ℕ → Option ℕ) (a : ℕ) → ((b : ℕ) → b < n → f a b ≡ g a b) → boundRow n f a ≡ boundRow n g a
-unfolding boundRow
+row_same : (n : ℕ) (f g : ℕ → ℕ → Option ℕ) (a : ℕ) → ((b : ℕ) → b < n → f a b ≡ g a b) → bound_row n f a ≡ bound_row n g a
+unfolding bound_row
 row_same n f g a h = map_same _ _ (upto 64) λ b. go b (leb (suc b) n) refl where
   go : (b : ℕ) (l : Bool) → leb (suc b) n ≡ l → cond (leb (suc b) n) (cell (f a b)) 0 ≡ cond (leb (suc b) n) (cell (g a b)) 0
   go b true e = ap (λ (o : Option ℕ). cond (leb (suc b) n) (cell o) 0) (h b (leb-true (suc b) n e))
@@ -83,11 +83,11 @@ overwrite-rows (suc k) r s rows h =
 
 module _ (n : ℕ) (f g : ℕ → ℕ → Option ℕ) (same : (a b : ℕ) → a < n → b < n → f a b ≡ g a b) where
   -- tables of equal bounds are equal
-  pub overwrite-same : (rows : List (List ℕ)) → overwrite n (boundRow n f) rows ≡ overwrite n (boundRow n g) rows
+  pub overwrite-same : (rows : List (List ℕ)) → overwrite n (bound_row n f) rows ≡ overwrite n (bound_row n g) rows
   overwrite-same rows = overwrite-rows n _ _ rows λ a l. row_same n f g a λ b s. same a b l s
 
-  pub found-same : allFound n f ≡ allFound n g
-  unfolding allFound
+  pub found-same : all_found n f ≡ all_found n g
+  unfolding all_found
   found-same = every-same _ _ n λ a l. every-same _ _ n λ b s. ap found (same a b l s)
 
 pub overwrite-none : (row : ℕ → List ℕ) (rows : List (List ℕ)) → overwrite 0 row rows ≡ rows
@@ -99,15 +99,15 @@ unfolding overwrite
 length-overwrite zero row rows = refl
 length-overwrite (suc k) row rows = length-set (overwrite k row rows) k (row k) ∙ length-overwrite k row rows
 
-pub getD-overwrite : (k : ℕ) (row : ℕ → List ℕ) (rows : List (List ℕ)) (a : ℕ) → a < k → k ≤ length rows → get_or (overwrite k row rows) a [] ≡ row a
+pub get_or-overwrite : (k : ℕ) (row : ℕ → List ℕ) (rows : List (List ℕ)) (a : ℕ) → a < k → k ≤ length rows → get_or (overwrite k row rows) a [] ≡ row a
 unfolding overwrite
-getD-overwrite zero row rows a l s = absurd (not-suc-le-zero l)
-getD-overwrite (suc k) row rows a l s =
+get_or-overwrite zero row rows a l s = absurd (not-suc-le-zero l)
+get_or-overwrite (suc k) row rows a l s =
     ⊎_elim
     (λ e. rw e (get_or-set_same (overwrite k row rows) k (row k) [] (omega (arith, length-overwrite k row rows))))
     (λ r.
     get_or-set_other (overwrite k row rows) k a (row k) [] (λ e. absurd (omega arith)) ∙
-    getD-overwrite k row rows a r (omega arith))
+    get_or-overwrite k row rows a r (omega arith))
     (eq-or-lt_of_le (le_of_suc-le-suc l))
 
 -- one cell more of a list that is filled from its start

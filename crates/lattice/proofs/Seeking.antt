@@ -11,7 +11,7 @@ use lib.Dec.{ltb, eqb}
 use borrow.Author.Tests.{eq-eqb, ne_eqb, eqb-true}
 use Rattle.graphs.proofs.Search.{not-true-false}
 use Rattle.lattice.specs.Table.{cell, found}
-use Rattle.lattice.specs.Words.{bit, without, holder, wordBound, Sided, Inside, Seeking}
+use Rattle.lattice.specs.Words.{bit, without, holder, word_bound, Sided, Inside, Seeking}
 use Rattle.lattice.proofs.Every.{and_left, true-not-false, last-nothing, last-only}
 use Rattle.lattice.proofs.Bits.{no-bit, and-bit, without-bit, without-most, cleared-bit, cleared-less}
 use Rattle.lattice.proofs.Rows.{holder-found}
@@ -83,10 +83,10 @@ common-inside n ws a b l side j r e =
 -- a type whose word has the bits that the words of a and b share is their bound
 module _ (ws : List ℕ) (a b c : ℕ) (l : c < 64) (e : get_or ws c 0 ≡ bit_and (get_or ws a 0) (get_or ws b 0)) where
   pub bound_at : bit (bit_and (get_or ws a 0) (get_or ws b 0)) c ≡ true
-      → (n : ℕ) → n ≤ 64 → Sided n ws → a < n → b < n → c ≡ cell (wordBound n ws a b)
+      → (n : ℕ) → n ≤ 64 → Sided n ws → a < n → b < n → c ≡ cell (word_bound n ws a b)
   bound_at h n few side la lb = seek_found (seek-begin ws _) c l h e n few side (common-inside n ws a b la side)
 
-  pub bound-own : (n : ℕ) → n ≤ 64 → Sided n ws → c < n → a < n → b < n → c ≡ cell (wordBound n ws a b)
+  pub bound-own : (n : ℕ) → n ≤ 64 → Sided n ws → c < n → a < n → b < n → c ≡ cell (word_bound n ws a b)
   bound-own n few side lc = bound_at (ap (λ (w : ℕ). bit w c) (sym e) ∙ side.own c lc) n few side
 
 -- a word without some of its bits has no bit at n or above where the word has none

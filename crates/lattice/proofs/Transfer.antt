@@ -11,17 +11,17 @@ use mathlib.Core.Option.{some}
 use Rattle.graphs.specs.Label.{Labels}
 use Rattle.graphs.specs.Graph.{Graph, Below, SameMeaning, AnySize, Reached, walk}
 use Rattle.graphs.specs.Map.{NodeMap, Exact}
-use Rattle.graphs.specs.Generalize.{both, generalizationBy, generalization}
-use Rattle.graphs.specs.Unify.{unificationBy, unification}
-use Rattle.graphs.specs.Difference.{Link, difference, meetOver}
+use Rattle.graphs.specs.Generalize.{both, generalization_by, generalization}
+use Rattle.graphs.specs.Unify.{unification_by, unification}
+use Rattle.graphs.specs.Difference.{Link, difference, meet_over}
 use Rattle.graphs.proofs.Walk.{option-same}
 use Rattle.graphs.proofs.Below.{exact_same, same-sym, same-trans, walk-map}
 use Rattle.graphs.proofs.Finite.{same-any-size}
 use Rattle.graphs.proofs.Product as Product
 use Rattle.lattice.specs.Label.{Label}
 use Rattle.lattice.specs.Table.{accepted, meet, cell}
-use Rattle.lattice.specs.Labels.{meetRanged, tableLabels, Known, Typed, OfAnySize}
-use Rattle.lattice.proofs.Relabel.{relabel, relabelUnified, same-below-left, same-below-right}
+use Rattle.lattice.specs.Labels.{meet_ranged, table_labels, Known, Typed, OfAnySize}
+use Rattle.lattice.proofs.Relabel.{relabel, relabel_unified, same-below-left, same-below-right}
 use Rattle.lattice.proofs.Embedding.{
   MeetEmbedding,
   Embedding,
@@ -29,7 +29,7 @@ use Rattle.lattice.proofs.Embedding.{
   meaning-embedded,
   any-size-embedded,
   unification-embedded,
-  meetOver-embedded,
+  meet_over-embedded,
   difference-embedded,
 }
 use Rattle.lattice.proofs.Lawful.{KnownLabel, known, known-label, label-path, label-parts, lawful, lawful-lattice, meet-label, join-label}
@@ -40,7 +40,7 @@ lower g = relabel (λ x. x.0) g
 
 module _ (n : ℕ) (t : List ℕ) (ok : accepted n t ≡ true) where
   abbrev raw : Labels
-  raw = tableLabels n t
+  raw = table_labels n t
 
   abbrev law : Labels
   law = lawful n t ok
@@ -177,7 +177,7 @@ module _ (n : ℕ) (t : List ℕ) (ok : accepted n t ≡ true) where
   module _ {A B : Type 0} (g : Graph Label A) (h : Graph Label B) (left : Typed n g) (right : Typed n h) where
     -- the generalization over labels is that over labels of the table, lowered
     pub generalization-exact : Exact (λ (x : A × B). x) (generalization raw g h) (lower (generalization law (lift g) (lift h)))
-    unfolding generalizationBy
+    unfolding generalization_by
     generalization-exact =
         record {
           root = refl;
@@ -197,7 +197,7 @@ module _ (n : ℕ) (t : List ℕ) (ok : accepted n t ≡ true) where
   pub unification-lower : {A B : Type 0} (sameA : A → A → Bool) (sameB : B → B → Bool) (g : Graph Label A) (gs : List A)
       (h : Graph Label B) (hs : List B) → ((v : A) → Memᴰ v gs → Known n (g.label v)) →
       ((w : B) → Memᴰ w hs → Known n (h.label w)) →
-      unification raw sameA sameB g gs h hs ≡ relabelUnified (λ x. x.0) (unification law sameA sameB (lift g) gs (lift h) hs)
+      unification raw sameA sameB g gs h hs ≡ relabel_unified (λ x. x.0) (unification law sameA sameB (lift g) gs (lift h) hs)
   unification-lower sameA sameB g gs h hs left right =
       unification-embedded known-embedding.meets sameA sameB g gs h hs (lift g).label (lift h).label
       (λ v m. known-label n t ok (g.label v) (left v m)) (λ w m. known-label n t ok (h.label w) (right w m))
@@ -210,7 +210,7 @@ module _ (n : ℕ) (t : List ℕ) (ok : accepted n t ≡ true) where
         record {
           L = Label;
           le = raw.le;
-          meet = meetRanged meets;
+          meet = meet_ranged meets;
           join = raw.join;
           top = raw.top;
           contradiction = raw.contradiction;
@@ -228,18 +228,18 @@ module _ (n : ℕ) (t : List ℕ) (ok : accepted n t ≡ true) where
     pub same-unification : {A B : Type 0} (sameA : A → A → Bool) (sameB : B → B → Bool) (g : Graph Label A) (gs : List A)
         (h : Graph Label B) (hs : List B) → ((v : A) → Memᴰ v gs → Known n (g.label v)) →
         ((w : B) → Memᴰ w hs → Known n (h.label w)) →
-        unificationBy (meetRanged meets) raw.top raw.contradiction sameA sameB g gs h hs ≡ unification raw sameA sameB g gs h hs
+        unification_by (meet_ranged meets) raw.top raw.contradiction sameA sameB g gs h hs ≡ unification raw sameA sameB g gs h hs
     same-unification sameA sameB g gs h hs left right =
         unification-embedded agrees sameA sameB g gs h hs (lift g).label (lift h).label
         (λ v m. known-label n t ok (g.label v) (left v m)) (λ w m. known-label n t ok (h.label w) (right w m)) ∙
         sym (unification-lower sameA sameB g gs h hs left right)
 
   -- the meet of all labels over a node
-  pub meetOver-label : {A B : Type 0} (sameA : A → A → Bool) (g : Graph Label B) (gs : List B) (over : B → A) →
+  pub meet_over-label : {A B : Type 0} (sameA : A → A → Bool) (g : Graph Label B) (gs : List B) (over : B → A) →
       ((w : B) → Memᴰ w gs → Known n (g.label w)) → (v : A) →
-      meetOver raw sameA g gs over v ≡ (meetOver law sameA (lift g) gs over v).0
-  meetOver-label sameA g gs over right v =
-      meetOver-embedded known-embedding.meets sameA g gs over (lift g).label (λ w m. known-label n t ok (g.label w) (right w m)) v
+      meet_over raw sameA g gs over v ≡ (meet_over law sameA (lift g) gs over v).0
+  meet_over-label sameA g gs over right v =
+      meet_over-embedded known-embedding.meets sameA g gs over (lift g).label (λ w m. known-label n t ok (g.label w) (right w m)) v
 
   pub difference-lower : {A B : Type 0} (sameA : A → A → Bool) (sameB : B → B → Bool) (earlier : Link A → Link A → Bool)
       (s : Graph Label A) (ss : List A) (g : Graph Label B) (gs : List B) (over : B → A) (wanted : A → KnownLabel n) →

@@ -19,13 +19,13 @@ abbrev pub plain : {T : Type 0} → T → Ranged T
 plain a = record { type = a; lowest = 0; highest = 255 }
 
 -- whether the range of a label is the full one, "0 to 255"
-unfoldable pub isFull : Label → Bool
-isFull l = eqb l.lowest 0 && eqb l.highest 255
+unfoldable pub is_full : Label → Bool
+is_full l = eqb l.lowest 0 && eqb l.highest 255
 
 -- the label past the end of a list of rows
 abbrev pub no_label : Label
 no_label = plain 0
 
 -- the graph that rows state
-abbrev pub graphOfRows : List (Row Label) → Graph Label ℕ
-graphOfRows rows = graph_of no_label rows
+abbrev pub graph_of_rows : List (Row Label) → Graph Label ℕ
+graph_of_rows rows = graph_of no_label rows

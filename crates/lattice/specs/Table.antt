@@ -32,14 +32,14 @@ found none = false
 found (some c) = true
 
 -- whether there is a bound and it is p
-abbrev pub foundAs : ℕ → Option ℕ → Bool
-foundAs p none = false
-foundAs p (some c) = eqb c p
+abbrev pub found_as : ℕ → Option ℕ → Bool
+found_as p none = false
+found_as p (some c) = eqb c p
 
 -- whether there is a bound and it is below or equal to p
-abbrev pub foundBelow : List ℕ → ℕ → Option ℕ → Bool
-foundBelow t p none = false
-foundBelow t p (some c) = below t c p
+abbrev pub found_below : List ℕ → ℕ → Option ℕ → Bool
+found_below t p none = false
+found_below t p (some c) = below t c p
 
 -- "A table has n types, 2 to 64, and 8 × n bytes"; else it is refused by 1.
 unfoldable pub sized : ℕ → List ℕ → Bool
@@ -75,20 +75,20 @@ module _ (n : ℕ) (t : List ℕ) where
   ordered = confined && reflexive && antisymmetric && transitive && least && greatest
 
   -- c is below a and below b, and every such type is below c: the greatest lower bound
-  unfoldable pub isMeet : ℕ → ℕ → ℕ → Bool
-  isMeet a b c = below t c a && below t c b && every n λ d. implies (below t d a && below t d b) (below t d c)
+  unfoldable pub is_meet : ℕ → ℕ → ℕ → Bool
+  is_meet a b c = below t c a && below t c b && every n λ d. implies (below t d a && below t d b) (below t d c)
 
   -- c is above a and above b, and every such type is above c: the least upper bound
-  unfoldable pub isJoin : ℕ → ℕ → ℕ → Bool
-  isJoin a b c = below t a c && below t b c && every n λ d. implies (below t a d && below t b d) (below t c d)
+  unfoldable pub is_join : ℕ → ℕ → ℕ → Bool
+  is_join a b c = below t a c && below t b c && every n λ d. implies (below t a d && below t b d) (below t c d)
 
   -- the meet of two types, if they have one
   unfoldable pub meet : ℕ → ℕ → Option ℕ
-  meet a b = last n (isMeet a b)
+  meet a b = last n (is_meet a b)
 
   -- the join of two types, if they have one
   unfoldable pub join : ℕ → ℕ → Option ℕ
-  join a b = last n (isJoin a b)
+  join a b = last n (is_join a b)
 
   -- "every two types must have a meet (greatest lower bound) and a join (least upper bound)"; else the table is refused by 3.
   unfoldable pub bounded : Bool
@@ -100,37 +100,37 @@ module _ (n : ℕ) (t : List ℕ) where
 
   -- the meet of c and q is p: c restores p over q
   unfoldable pub restores : ℕ → ℕ → ℕ → Bool
-  restores p q c = foundAs p (meet c q)
+  restores p q c = found_as p (meet c q)
 
   -- c is the greatest type that restores p over q
-  unfoldable pub isWanted : ℕ → ℕ → ℕ → Bool
-  isWanted p q c = restores p q c && every n λ d. implies (restores p q d) (below t d c)
+  unfoldable pub is_wanted : ℕ → ℕ → ℕ → Bool
+  is_wanted p q c = restores p q c && every n λ d. implies (restores p q d) (below t d c)
 
   -- "The wanted type is the greatest type whose meet with the meet of all g types over this node (top if none) equals the type in
   -- s", for the meet q and the type p in s; none where "none is the greatest"
   unfoldable pub wanted : ℕ → ℕ → Option ℕ
-  wanted p q = last n (isWanted p q)
+  wanted p q = last n (is_wanted p q)
 
   -- the meet of c and q is below or equal to p
-  unfoldable pub meetBelow : ℕ → ℕ → ℕ → Bool
-  meetBelow p q c = foundBelow t p (meet c q)
+  unfoldable pub meet_below : ℕ → ℕ → ℕ → Bool
+  meet_below p q c = found_below t p (meet c q)
 
   -- c is the greatest type whose meet with q is below or equal to p
-  unfoldable pub isResidual : ℕ → ℕ → ℕ → Bool
-  isResidual p q c = meetBelow p q c && every n λ d. implies (meetBelow p q d) (below t d c)
+  unfoldable pub is_residual : ℕ → ℕ → ℕ → Bool
+  is_residual p q c = meet_below p q c && every n λ d. implies (meet_below p q d) (below t d c)
 
   -- the greatest type whose meet with q is below or equal to p, if there is one: the relative pseudo-complement of q with respect to p
   unfoldable pub residual : ℕ → ℕ → Option ℕ
-  residual p q = last n (isResidual p q)
+  residual p q = last n (is_residual p q)
 
   -- "A table admits differences when for all types p, q there is a greatest type c whose meet with q is below or equal to p"
   unfoldable pub admits : Bool
   admits = every n λ p. every n λ q. found (residual p q)
 
 -- the bound of two types on one side: the join for true, the meet for false
-abbrev pub sideBound : ℕ → List ℕ → Bool → ℕ → ℕ → Option ℕ
-sideBound n t true = join n t
-sideBound n t false = meet n t
+abbrev pub side_bound : ℕ → List ℕ → Bool → ℕ → ℕ → Option ℕ
+side_bound n t true = join n t
+side_bound n t false = meet n t
 
 -- the number in a cell of the two tables: a type, or 64 where there is no bound
 abbrev pub cell : Option ℕ → ℕ
@@ -138,8 +138,8 @@ cell none = 64
 cell (some c) = c
 
 -- Row a of a table of bounds has 64 numbers: the bounds of a with the n types, then 0.
-unfoldable pub boundRow : ℕ → (ℕ → ℕ → Option ℕ) → ℕ → List ℕ
-boundRow n bound a = map (λ b. cond (leb (suc b) n) (cell (bound a b)) 0) (upto 64)
+unfoldable pub bound_row : ℕ → (ℕ → ℕ → Option ℕ) → ℕ → List ℕ
+bound_row n bound a = map (λ b. cond (leb (suc b) n) (cell (bound a b)) 0) (upto 64)
 
 -- the rows where the first n are overwritten and the others are as they were
 unfoldable pub overwrite : ℕ → (ℕ → List ℕ) → List (List ℕ) → List (List ℕ)
@@ -149,4 +149,4 @@ overwrite (suc k) row rows = set (overwrite k row rows) k (row k)
 -- "Meets and joins stand in two tables of 64 rows by 64 entries once a table is accepted": what a lent table holds
 -- after opening. The table is filled once 1 and 2 do not apply, and unchanged otherwise.
 unfoldable pub filled : ℕ → List ℕ → (ℕ → ℕ → Option ℕ) → List (List ℕ) → List (List ℕ)
-filled n t bound rows = cond (sized n t && ordered n t) (overwrite n (boundRow n bound) rows) rows
+filled n t bound rows = cond (sized n t && ordered n t) (overwrite n (bound_row n bound) rows) rows

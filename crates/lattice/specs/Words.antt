@@ -48,30 +48,30 @@ abbrev pub part_of : ℕ → ℕ → Bool
 part_of a b = eqb (bit_and a b) a
 
 -- of a type j below i: all that is below j is below i, and i is below j only where they are one type
-unfoldable pub pairOrdered : List ℕ → ℕ → ℕ → Bool
-pairOrdered ws i j = part_of (get_or ws j 0) (get_or ws i 0) && implies (bit (get_or ws j 0) i) (eqb i j)
+unfoldable pub pair_ordered : List ℕ → ℕ → ℕ → Bool
+pair_ordered ws i j = part_of (get_or ws j 0) (get_or ws i 0) && implies (bit (get_or ws j 0) i) (eqb i j)
 
 -- row i has no bit at n or above, its own bit and that of 0, and bit i of row n - 1 is set
 abbrev pub row_set : ℕ → List ℕ → ℕ → Bool
 row_set n ws i = leb (get_or ws i 0 / 2 ^ (n - 1)) 1 && bit (get_or ws i 0) i && bit (get_or ws i 0) 0 && bit (get_or ws (n - 1) 0) i
 
 -- a row lies inside `all` and has bit i and bit 0
-abbrev pub rowInside : ℕ → ℕ → ℕ → Bool
-rowInside all row i = part_of row all && bit row i && bit row 0
+abbrev pub row_inside : ℕ → ℕ → ℕ → Bool
+row_inside all row i = part_of row all && bit row i && bit row 0
 
 -- the pairs of type i with every type below it are ordered
-abbrev pub pairsOrdered : List ℕ → ℕ → Bool
-pairsOrdered ws i = every 64 λ j. implies (bit (get_or ws i 0) j) (pairOrdered ws i j)
+abbrev pub pairs_ordered : List ℕ → ℕ → Bool
+pairs_ordered ws i = every 64 λ j. implies (bit (get_or ws i 0) j) (pair_ordered ws i j)
 
 -- row i passes the tests of refusal 2
-unfoldable pub rowOrdered : ℕ → List ℕ → ℕ → Bool
-rowOrdered n ws i = row_set n ws i && pairsOrdered ws i
+unfoldable pub row_ordered : ℕ → List ℕ → ℕ → Bool
+row_ordered n ws i = row_set n ws i && pairs_ordered ws i
 
 -- The words ws hold the types below each type of a table that passes the tests of refusals 1 and 2.
 pub record OrderWords (n : ℕ) (t ws : List ℕ) : Type 0 where
   pub size : sized n t ≡ true
   pub words : Words n t false ws
-  pub order : every n (rowOrdered n ws) ≡ true
+  pub order : every n (row_ordered n ws) ≡ true
 
 -- The words ws can be one side of an order: the word of each type has the type's own bit and none at n or above, and two types
 -- that have each other's bit are one.
@@ -85,13 +85,13 @@ abbrev pub Inside : ℕ → ℕ → Type 0
 Inside n w = (j : ℕ) → j < 64 → bit w j ≡ true → j < n
 
 -- the bits that the word of c and `over` share are `lower`
-abbrev pub wordRestores : List ℕ → ℕ → ℕ → ℕ → Bool
-wordRestores ws lower over c = eqb (bit_and (get_or ws c 0) over) lower
+abbrev pub word_restores : List ℕ → ℕ → ℕ → ℕ → Bool
+word_restores ws lower over c = eqb (bit_and (get_or ws c 0) over) lower
 
 -- u is the union of the words of those of the first k types that restore `lower` over `over`: it is part of a word exactly where each of
 -- these words is.
 abbrev pub Restoring : ℕ → List ℕ → ℕ → ℕ → ℕ → Type 0
-Restoring k ws lower over u = (m : ℕ) → part_of u m ≡ every k λ c. implies (wordRestores ws lower over c) (part_of (get_or ws c 0) m)
+Restoring k ws lower over u = (m : ℕ) → part_of u m ≡ every k λ c. implies (word_restores ws lower over c) (part_of (get_or ws c 0) m)
 
 -- r is the wanted type for the type p in s and the type over it whose word is `over`, or 64 where there is none.
 abbrev pub WantedOver : ℕ → List ℕ → List ℕ → ℕ → ℕ → ℕ → Type 0
@@ -103,12 +103,12 @@ module _ (n : ℕ) (ws : List ℕ) where
   holder w = last n λ c. eqb (get_or ws c 0) w
 
   -- the type whose word has the bits that the words of a and b share, if there is one
-  abbrev pub wordBound : ℕ → ℕ → Option ℕ
-  wordBound a b = holder (bit_and (get_or ws a 0) (get_or ws b 0))
+  abbrev pub word_bound : ℕ → ℕ → Option ℕ
+  word_bound a b = holder (bit_and (get_or ws a 0) (get_or ws b 0))
 
 -- whether every two types have a bound
-unfoldable pub allFound : ℕ → (ℕ → ℕ → Option ℕ) → Bool
-allFound n bound = every n λ a. every n λ b. found (bound a b)
+unfoldable pub all_found : ℕ → (ℕ → ℕ → Option ℕ) → Bool
+all_found n bound = every n λ a. every n λ b. found (bound a b)
 
 -- What is left in a search for the type with the word `word`: `left` has only bits of `word`, and has the bit of every type whose word
 -- is `word`.
@@ -157,16 +157,16 @@ Spanned ws i = (x : ℕ) → bit (strictly ws i) x ≡ true → (c : ℕ) × Spa
 -- that i covers
 pub record CoversOf (n : ℕ) (ws : List ℕ) (i : ℕ) (answer : Bool) (w : ℕ) : Type 0 where
   pub yes-stands : answer ≡ true → Spanned ws i
-  pub no-stands : answer ≡ false → pairsOrdered ws i ≡ false
+  pub no-stands : answer ≡ false → pairs_ordered ws i ≡ false
   pub covers : Lower n ws → Covered n ws i w
 
 module _ (n : ℕ) (ws : List ℕ) where
   -- An answer to whether type a has a bound with each type of w. A no says only that not every two types of the table have a bound.
   pub record BoundsWith (a w : ℕ) (answer : Bool) : Type 0 where
-    pub yes-stands : answer ≡ true → (b : ℕ) → b < 64 → bit w b ≡ true → found (wordBound n ws a b) ≡ true
-    pub no-stands : answer ≡ false → allFound n (wordBound n ws) ≡ false
+    pub yes-stands : answer ≡ true → (b : ℕ) → b < 64 → bit w b ≡ true → found (word_bound n ws a b) ≡ true
+    pub no-stands : answer ≡ false → all_found n (word_bound n ws) ≡ false
 
   -- An answer to whether every two types of w have a bound. A no says only that not every two types of the table have a bound.
   pub record BoundsWithin (w : ℕ) (answer : Bool) : Type 0 where
-    pub yes-stands : answer ≡ true → (a b : ℕ) → a < 64 → b < 64 → bit w a ≡ true → bit w b ≡ true → found (wordBound n ws a b) ≡ true
-    pub no-stands : answer ≡ false → allFound n (wordBound n ws) ≡ false
+    pub yes-stands : answer ≡ true → (a b : ℕ) → a < 64 → b < 64 → bit w a ≡ true → bit w b ≡ true → found (word_bound n ws a b) ≡ true
+    pub no-stands : answer ≡ false → all_found n (word_bound n ws) ≡ false

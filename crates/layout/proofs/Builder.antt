@@ -14,8 +14,8 @@ use Rattle.graphs.specs.Rows.{Row}
 use Rattle.graphs.specs.Large.{Ascending}
 use Rattle.lattice.specs.Label.{Label}
 use Rattle.lattice.specs.Labels.{Known}
-use Rattle.layout.specs.Layout.{header, levels, scale, labelFrom, link_of, linkWord, size, rowFrom, linksFrom, rowEnd, label_at, targetAt, linksBetween, linksAt, rows_from, rows_of, Node, Shaped, Sound}
-use Rattle.layout.specs.Builder.{Built, Open, Same, putLabel}
+use Rattle.layout.specs.Layout.{header, levels, scale, label_from, link_of, link_word, size, row_from, links_from, row_end, label_at, target_at, links_between, links_at, rows_from, rows_of, Node, Shaped, Sound}
+use Rattle.layout.specs.Builder.{Built, Open, Same, put_label}
 use Rattle.layout.proofs.Spans.{link_at, slice-same, links-more, links-at, places-ascending}
 use Rattle.layout.proofs.Rows.{rows-member, rows_more, rows_alike}
 
@@ -32,7 +32,7 @@ pub same-trans : (a b c : List ℕ) {start end : ℕ} → Same a b start end →
 same-trans a b c p q k low high = q k low high ∙ p k low high
 
 -- a label depends on its header
-pub label_same : (ws ws' : List ℕ) (k : ℕ) → Same ws ws' k (k + header) → labelFrom ws' k ≡ labelFrom ws k
+pub label_same : (ws ws' : List ℕ) (k : ℕ) → Same ws ws' k (k + header) → label_from ws' k ≡ label_from ws k
 label_same ws ws' k same =
     ap₂ {C = Label} (λ (a r : ℕ). record { type = a; lowest = r / levels; highest = r % levels }) (same k (omega arith) (omega arith))
     (same (k + 1) (omega arith) (omega arith))
@@ -42,24 +42,24 @@ module _ (ws : List ℕ) (at : ℕ) (l : Label) where
   abbrev word : ℕ
   word = l.lowest * levels + l.highest
 
-  pub length-put : length (putLabel ws at l) ≡ length ws
-  unfolding putLabel
+  pub length-put : length (put_label ws at l) ≡ length ws
+  unfolding put_label
   length-put = length-set (set ws at l.type) (at + 1) word ∙ length-set ws at l.type
 
-  pub put-before : (a b : ℕ) → b ≤ at → Same ws (putLabel ws at l) a b
-  unfolding putLabel
+  pub put-before : (a b : ℕ) → b ≤ at → Same ws (put_label ws at l) a b
+  unfolding put_label
   put-before a b h =
-      same-trans ws (set ws at l.type) (putLabel ws at l) (same-before ws at l.type a b h)
+      same-trans ws (set ws at l.type) (put_label ws at l) (same-before ws at l.type a b h)
       (same-before (set ws at l.type) (at + 1) word a b (omega arith))
 
-  pub put-behind : (a b : ℕ) → at + header ≤ a → Same ws (putLabel ws at l) a b
-  unfolding putLabel
+  pub put-behind : (a b : ℕ) → at + header ≤ a → Same ws (put_label ws at l) a b
+  unfolding put_label
   put-behind a b h =
-      same-trans ws (set ws at l.type) (putLabel ws at l) (same-behind ws at l.type a b (omega arith))
+      same-trans ws (set ws at l.type) (put_label ws at l) (same-behind ws at l.type a b (omega arith))
       (same-behind (set ws at l.type) (at + 1) word a b (omega arith))
 
-  pub label-put : at + header ≤ length ws → l.highest ≤ 255 → labelFrom (putLabel ws at l) at ≡ l
-  unfolding putLabel
+  pub label-put : at + header ≤ length ws → l.highest ≤ 255 → label_from (put_label ws at l) at ≡ l
+  unfolding put_label
   label-put room high =
       ap₂ {C = Label} (λ (a r : ℕ). record { type = a; lowest = r / levels; highest = r % levels })
       (get_or-set_other (set ws at l.type) (at + 1) at word 0 (λ (e : at ≡ at + 1). omega arith)
@@ -68,22 +68,22 @@ module _ (ws : List ℕ) (at : ℕ) (l : Label) where
       ∙ ap₂ {C = Label} (λ (x y : ℕ). record { type = l.type; lowest = x; highest = y }) (omega arith) (omega arith)
 
 pub links-same : (ws ws' : List ℕ) (a b : ℕ) → a ≤ b → b ≤ length ws → length ws' ≡ length ws → Same ws ws' a b →
-    linksBetween ws' a b ≡ linksBetween ws a b
-unfolding linksBetween
+    links_between ws' a b ≡ links_between ws a b
+unfolding links_between
 links-same ws ws' a b h inside long same =
     ap (map link_of) (slice-same ws ws' (b - a) a b (omega arith) inside (omega (arith, long)) same)
 
 -- the word of a link, stored behind the links from a place on
 pub links-put : (ws : List ℕ) (a b : ℕ) (l : ℕ × ℕ) → a ≤ b → b < length ws → l.1 < scale →
-    linksBetween (set ws b (linkWord l)) a (b + 1) ≡ linksBetween ws a b ++ (l ∷ [])
+    links_between (set ws b (link_word l)) a (b + 1) ≡ links_between ws a b ++ (l ∷ [])
 links-put ws a b l low room small =
-    links-more (set ws b (linkWord l)) a b low (omega (arith, length-set ws b (linkWord l)))
+    links-more (set ws b (link_word l)) a b low (omega (arith, length-set ws b (link_word l)))
     ∙ ap₂ (λ (ls : List (ℕ × ℕ)) (m : ℕ × ℕ). ls ++ (m ∷ []))
-    (links-same ws (set ws b (linkWord l)) a b low (omega arith) (length-set ws b (linkWord l))
-    (same-before ws b (linkWord l) a b (omega arith)))
-    (ap link_of (get_or-set_same ws b (linkWord l) 0 room) ∙ link-word l small)
+    (links-same ws (set ws b (link_word l)) a b low (omega arith) (length-set ws b (link_word l))
+    (same-before ws b (link_word l) a b (omega arith)))
+    (ap link_of (get_or-set_same ws b (link_word l) 0 room) ∙ link-word l small)
   where
-    link-word : (m : ℕ × ℕ) → m.1 < scale → link_of (linkWord m) ≡ m
+    link-word : (m : ℕ × ℕ) → m.1 < scale → link_of (link_word m) ≡ m
     link-word m h = ap₂ {C = ℕ × ℕ} (λ (x y : ℕ). (x, y)) (omega arith) (omega arith)
 
 module _ {ws : List ℕ} {base i at : ℕ} (b : Built ws base i at) where
@@ -105,15 +105,15 @@ module _ {ws : List ℕ} {base i at : ℕ} (b : Built ws base i at) where
       rows_from ws' 0 i ≡ rows_from ws 0 i
   rows-kept ws' long same within = rows_alike ws ws' i 0 (λ v _ h. row v (omega arith))
     where
-      row : (v : ℕ) → v < i → ◌≡◌ {A = Row Label} (label_at ws' v, linksAt ws' v) (label_at ws v, linksAt ws v)
+      row : (v : ℕ) → v < i → ◌≡◌ {A = Row Label} (label_at ws' v, links_at ws' v) (label_at ws v, links_at ws v)
       row v h =
-          let starts : rowFrom ws' v ≡ rowFrom ws v = same (v + 1) (omega arith) (omega arith) in
-          let ends : rowEnd ws' v ≡ rowEnd ws v = same (v + 2) (omega arith) (omega arith) in
-          ap₂ {C = Row Label} (λ (x y : ℕ). (labelFrom ws' x, linksBetween ws' (x + header) y)) starts ends
+          let starts : row_from ws' v ≡ row_from ws v = same (v + 1) (omega arith) (omega arith) in
+          let ends : row_end ws' v ≡ row_end ws v = same (v + 2) (omega arith) (omega arith) in
+          ap₂ {C = Row Label} (λ (x y : ℕ). (label_from ws' x, links_between ws' (x + header) y)) starts ends
           ∙ ap₂ {C = Row Label} (λ (x : Label) (ls : List (ℕ × ℕ)). (x, ls))
-          (label_same ws ws' (rowFrom ws v)
+          (label_same ws ws' (row_from ws v)
           (λ k low high. within k (omega (arith, b.lower v h)) (omega (arith, b.begun v h, b.ended v h))))
-          (links-same ws ws' (linksFrom ws v) (rowEnd ws v) (b.begun v h) (omega (arith, b.ended v h, b.high)) long
+          (links-same ws ws' (links_from ws v) (row_end ws v) (b.begun v h) (omega (arith, b.ended v h, b.high)) long
           (λ k low high. within k (omega (arith, b.lower v h)) (omega (arith, b.ended v h))))
 
 -- To begin: the first row is to begin at `base`.
@@ -140,7 +140,7 @@ module _ {ws : List ℕ} {base i at end : ℕ} (o : Open ws base i at end) (room
   kept : Built (set ws (i + 2) end) base i at
   kept = built-kept o.built (set ws (i + 2) end) (length-set ws (i + 2) end) (same-before ws (i + 2) end 1 (i + 2) (omega arith))
 
-  begins : rowFrom (set ws (i + 2) end) i ≡ at
+  begins : row_from (set ws (i + 2) end) i ≡ at
   begins = kept.next
 
   pub row_closes : Built (set ws (i + 2) end) base (i + 1) end
@@ -162,28 +162,28 @@ module _ {ws : List ℕ} {base i at end : ℕ} (o : Open ws base i at end) (room
           go (yes e) = inr e
           go (no d) = inl (omega arith)
 
-      lower_last : (v : ℕ) → v ≡ i → base ≤ rowFrom (set ws (i + 2) end) v
+      lower_last : (v : ℕ) → v ≡ i → base ≤ row_from (set ws (i + 2) end) v
       lower_last v e = rw (e, begins) o.built.low
 
-      begun-last : (v : ℕ) → v ≡ i → linksFrom (set ws (i + 2) end) v ≤ rowEnd (set ws (i + 2) end) v
+      begun-last : (v : ℕ) → v ≡ i → links_from (set ws (i + 2) end) v ≤ row_end (set ws (i + 2) end) v
       begun-last v e = rw (e, begins, last) o.headed
 
-      ended-last : (v : ℕ) → v ≡ i → rowEnd (set ws (i + 2) end) v ≤ end
+      ended-last : (v : ℕ) → v ≡ i → row_end (set ws (i + 2) end) v ≤ end
       ended-last v e = rw (e, last) (omega arith)
 
   none : 0 + i ≡ i
   none = omega arith
 
   pub closed-rows : rows_from (set ws (i + 2) end) 0 (i + 1)
-      ≡ rows_from ws 0 i ++ ((labelFrom ws at, linksBetween ws (at + header) end) ∷ [])
+      ≡ rows_from ws 0 i ++ ((label_from ws at, links_between ws (at + header) end) ∷ [])
   closed-rows =
       ap (rows_from (set ws (i + 2) end) 0) (add-one i)
       ∙ rows_more (set ws (i + 2) end) i 0
-      ∙ ap (λ (v : ℕ). rows_from (set ws (i + 2) end) 0 i ++ ((label_at (set ws (i + 2) end) v, linksAt (set ws (i + 2) end) v) ∷ [])) none
+      ∙ ap (λ (v : ℕ). rows_from (set ws (i + 2) end) 0 i ++ ((label_at (set ws (i + 2) end) v, links_at (set ws (i + 2) end) v) ∷ [])) none
       ∙ ap₂ (λ (rs : List (Row Label)) (r : Row Label). rs ++ (r ∷ []))
       (rows-kept o.built (set ws (i + 2) end) (length-set ws (i + 2) end) (same-before ws (i + 2) end 1 (i + 2) (omega arith))
       (same-behind ws (i + 2) end base at room))
-      (ap₂ {C = Row Label} (λ (x y : ℕ). (labelFrom (set ws (i + 2) end) x, linksBetween (set ws (i + 2) end) (x + header) y)) begins last
+      (ap₂ {C = Row Label} (λ (x y : ℕ). (label_from (set ws (i + 2) end) x, links_between (set ws (i + 2) end) (x + header) y)) begins last
       ∙ ap₂ {C = Row Label} (λ (x : Label) (ls : List (ℕ × ℕ)). (x, ls))
       (label_same ws (set ws (i + 2) end) at (same-behind ws (i + 2) end at (at + header) (omega (arith, o.built.low))))
       (links-same ws (set ws (i + 2) end) (at + header) end o.headed o.inside (length-set ws (i + 2) end)
@@ -223,12 +223,12 @@ module _ {ws : List ℕ} {base i at : ℕ} (b : Built ws base i at) (sized : siz
         ended = omega (arith, b.ended v (omega arith), b.high);
       }
 
-  row-member : (v : ℕ) → v < size ws → Memᴰ {A = Row Label} (label_at ws v, linksAt ws v) (rows_of ws)
+  row-member : (v : ℕ) → v < size ws → Memᴰ {A = Row Label} (label_at ws v, links_at ws v) (rows_of ws)
   row-member v h = rows-member ws (size ws) 0 v v (omega arith) h
 
-  place-member : (v k : ℕ) → v < size ws → linksFrom ws v ≤ k → k < rowEnd ws v → Memᴰ {A = ℕ × ℕ} (link_at ws k) (linksAt ws v)
+  place-member : (v k : ℕ) → v < size ws → links_from ws v ≤ k → k < row_end ws v → Memᴰ {A = ℕ × ℕ} (link_at ws k) (links_at ws v)
   place-member v k h low high =
-      links-at ws (rowEnd ws v) (built-node v h).ended (rowEnd ws v - linksFrom ws v) (linksFrom ws v)
+      links-at ws (row_end ws v) (built-node v h).ended (row_end ws v - links_from ws v) (links_from ws v)
       (omega (arith, (built-node v h).begun)) k low high
 
   pub built-shaped : 0 < i → i ≤ 510 → Orderly (rows_of ws) → Shaped ws
@@ -238,12 +238,12 @@ module _ {ws : List ℕ} {base i at : ℕ} (b : Built ws base i at) (sized : siz
         few = omega arith;
         behind = omega (arith, b.listed, b.lower 0 some);
         node = built-node;
-        labelled = λ v h. o.labels (label_at ws v, linksAt ws v) (row-member v h);
-        known = λ v k h low high. o.features (label_at ws v, linksAt ws v) (row-member v h) (link_at ws k) (place-member v k h low high);
+        labelled = λ v h. o.labels (label_at ws v, links_at ws v) (row-member v h);
+        known = λ v k h low high. o.features (label_at ws v, links_at ws v) (row-member v h) (link_at ws k) (place-member v k h low high);
         ascending =
             λ v k h low high.
-            places-ascending ws (rowEnd ws v) (built-node v h).ended (rowEnd ws v - linksFrom ws v) (linksFrom ws v)
-            (omega (arith, (built-node v h).begun)) (o.ascends (label_at ws v, linksAt ws v) (row-member v h)) k low high;
+            places-ascending ws (row_end ws v) (built-node v h).ended (row_end ws v - links_from ws v) (links_from ws v)
+            (omega (arith, (built-node v h).begun)) (o.ascends (label_at ws v, links_at ws v) (row-member v h)) k low high;
       }
 
   pub built-sound : Shaped ws → Aimed i (rows_of ws) → Sound ws
@@ -252,6 +252,6 @@ module _ {ws : List ℕ} {base i at : ℕ} (b : Built ws base i at) (sized : siz
         shaped = s;
         targets =
             λ v k h low high.
-            subst (λ (n : ℕ). targetAt ws k < n) (sym sized)
-            (a.targets (label_at ws v, linksAt ws v) (row-member v h) (link_at ws k) (place-member v k h low high));
+            subst (λ (n : ℕ). target_at ws k < n) (sym sized)
+            (a.targets (label_at ws v, links_at ws v) (row-member v h) (link_at ws k) (place-member v k h low high));
       }

@@ -5,17 +5,17 @@ use Prim.Native.Nat.{ℕ, zero, suc, ◌+◌, ◌-◌, ◌≤◌, ◌<◌}
 use native.Mathlib.Decide.{dec_lt}
 use native.Mathlib.Omega.{arith}
 use lib.ListN.{length, get_or}
-use Rattle.layout.specs.Layout.{size, rowFrom, linksFrom, rowEnd, featureAt, Shaped, Place, rowsEnd}
+use Rattle.layout.specs.Layout.{size, row_from, links_from, row_end, feature_at, Shaped, Place, rows_end}
 use Rattle.layout.proofs.Spans.{features-rise}
 
 -- a row ends where the next one begins
-pub next_row : (ws : List ℕ) (v w : ℕ) → suc v ≡ w → rowEnd ws v ≡ rowFrom ws w
+pub next_row : (ws : List ℕ) (v w : ℕ) → suc v ≡ w → row_end ws v ≡ row_from ws w
 next_row ws v w e = ap (λ (i : ℕ). get_or ws i 0) (omega arith)
 
 module _ {ws : List ℕ} (shaped : Shaped ws) where
-  pub rows-rise : (n a b : ℕ) → a + n ≡ b → b ≤ size ws → rowFrom ws a ≤ rowFrom ws b
+  pub rows-rise : (n a b : ℕ) → a + n ≡ b → b ≤ size ws → row_from ws a ≤ row_from ws b
   rows-rise zero a b e h =
-      let same : rowFrom ws a ≡ rowFrom ws b = ap (λ (i : ℕ). rowFrom ws i) (omega arith) in
+      let same : row_from ws a ≡ row_from ws b = ap (λ (i : ℕ). row_from ws i) (omega arith) in
       omega arith
   rows-rise (suc n) a b e h =
       omega (arith, (shaped.node a (omega arith)).begun, next_row ws a (suc a) (omega arith), rows-rise n (suc a) b (omega arith) h)
@@ -24,7 +24,7 @@ module _ {ws : List ℕ} (shaped : Shaped ws) where
   pub directory : size ws + 1 < length ws
   directory = omega (arith, shaped.nonempty, (shaped.node (size ws - 1) (omega (arith, shaped.nonempty))).listed)
 
-  pub rows_inside : rowsEnd ws ≤ length ws
+  pub rows_inside : rows_end ws ≤ length ws
   rows_inside =
       omega (
         arith,
@@ -33,39 +33,39 @@ module _ {ws : List ℕ} (shaped : Shaped ws) where
       )
 
   -- no row begins before the first
-  pub row_low : (v : ℕ) → v ≤ size ws → rowFrom ws 0 ≤ rowFrom ws v
+  pub row_low : (v : ℕ) → v ≤ size ws → row_from ws 0 ≤ row_from ws v
   row_low v h = rows-rise v 0 v (omega arith) h
 
   -- no row ends behind the last
-  pub row_last : (v : ℕ) → v < size ws → rowEnd ws v ≤ rowsEnd ws
+  pub row_last : (v : ℕ) → v < size ws → row_end ws v ≤ rows_end ws
   row_last v h =
       omega (arith, next_row ws v (suc v) (omega arith), rows-rise (size ws - suc v) (suc v) (size ws) (omega arith) (omega arith))
 
   -- the row that a place belongs to
-  row_before : (n k : ℕ) → n ≤ size ws → rowFrom ws 0 ≤ k → k < rowFrom ws n →
-      (v : ℕ) × (v < size ws) × (rowFrom ws v ≤ k) × (k < rowEnd ws v)
+  row_before : (n k : ℕ) → n ≤ size ws → row_from ws 0 ≤ k → k < row_from ws n →
+      (v : ℕ) × (v < size ws) × (row_from ws v ≤ k) × (k < row_end ws v)
   row_before zero k h low high = absurd (omega arith)
-  row_before (suc n) k h low high = go (dec_lt k (rowFrom ws n)) (row_before n k (omega arith) low)
+  row_before (suc n) k h low high = go (dec_lt k (row_from ws n)) (row_before n k (omega arith) low)
     where
-      go : Dec (k < rowFrom ws n) →
-          (k < rowFrom ws n → (v : ℕ) × (v < size ws) × (rowFrom ws v ≤ k) × (k < rowEnd ws v)) →
-          (v : ℕ) × (v < size ws) × (rowFrom ws v ≤ k) × (k < rowEnd ws v)
+      go : Dec (k < row_from ws n) →
+          (k < row_from ws n → (v : ℕ) × (v < size ws) × (row_from ws v ≤ k) × (k < row_end ws v)) →
+          (v : ℕ) × (v < size ws) × (row_from ws v ≤ k) × (k < row_end ws v)
       go (yes l) later = later l
       go (no d) later = (n, omega arith, omega arith, omega (arith, next_row ws n (suc n) (omega arith)))
 
-  pub row-of : (k : ℕ) → rowFrom ws 0 ≤ k → k < rowsEnd ws → (v : ℕ) × (v < size ws) × (rowFrom ws v ≤ k) × (k < rowEnd ws v)
+  pub row-of : (k : ℕ) → row_from ws 0 ≤ k → k < rows_end ws → (v : ℕ) × (v < size ws) × (row_from ws v ≤ k) × (k < row_end ws v)
   row-of k low high = row_before (size ws) k (omega arith) low high
 
   -- a link of an earlier row stands before a later row
-  pub earlier-row : (a b k : ℕ) → a < b → b ≤ size ws → k < rowEnd ws a → k < rowFrom ws b
+  pub earlier-row : (a b k : ℕ) → a < b → b ≤ size ws → k < row_end ws a → k < row_from ws b
   earlier-row a b k h inside high =
       omega (arith, next_row ws a (suc a) (omega arith), rows-rise (b - suc a) (suc a) b (omega arith) inside)
 
   -- a link stands behind the beginning of the rows, and before their end
-  pub place-from : {v k : ℕ} → Place ws v k → rowFrom ws 0 ≤ k
+  pub place-from : {v k : ℕ} → Place ws v k → row_from ws 0 ≤ k
   place-from {v} p = omega (arith, p.low, row_low v (omega (arith, p.inside)))
 
-  pub place-before : {v k : ℕ} → Place ws v k → k < rowsEnd ws
+  pub place-before : {v k : ℕ} → Place ws v k → k < rows_end ws
   place-before {v} {k} p = earlier-row v (size ws) k p.inside (omega arith) p.high
 
   -- a link stands in one row only
@@ -78,20 +78,20 @@ module _ {ws : List ℕ} (shaped : Shaped ws) where
       go (no h) (no l) = omega arith
 
   -- a link does not stand in a header
-  pub no_header : {u k : ℕ} (v : ℕ) → v < size ws → Place ws u k → k < linksFrom ws v → k < rowFrom ws v
+  pub no_header : {u k : ℕ} (v : ℕ) → v < size ws → Place ws u k → k < links_from ws v → k < row_from ws v
   no_header {u} {k} v h p below = go (dec_lt u v)
     where
-      go : Dec (u < v) → k < rowFrom ws v
+      go : Dec (u < v) → k < row_from ws v
       go (yes l) = earlier-row u v k l (omega arith) p.high
       go (no l) = absurd (omega (arith, p.low, rows-rise (u - v) v u (omega arith) (omega (arith, p.inside))))
 
   -- features ascend along a row
-  pub place-rises : {v i j : ℕ} → Place ws v i → Place ws v j → i < j → featureAt ws i < featureAt ws j
+  pub place-rises : {v i j : ℕ} → Place ws v i → Place ws v j → i < j → feature_at ws i < feature_at ws j
   place-rises {v} {i} {j} p q h =
-      features-rise ws (rowEnd ws v) (shaped.node v p.inside).ended (linksFrom ws v)
+      features-rise ws (row_end ws v) (shaped.node v p.inside).ended (links_from ws v)
       (λ k low high. shaped.ascending v k p.inside low high) (j - suc i) i j p.low (omega arith) q.high
 
-  pub one-feature : {v i j : ℕ} → Place ws v i → Place ws v j → featureAt ws i ≡ featureAt ws j → i ≡ j
+  pub one-feature : {v i j : ℕ} → Place ws v i → Place ws v j → feature_at ws i ≡ feature_at ws j → i ≡ j
   one-feature {v} {i} {j} p q e = go (dec_lt i j) (dec_lt j i)
     where
       apart : {a b : ℕ} → a < b → a ≡ b → ⊥

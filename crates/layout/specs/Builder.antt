@@ -3,7 +3,7 @@
 use Rattle.std.specs.Prelude.{◌≡◌, List, ℕ, ◌+◌, ◌*◌, ◌≤◌, ◌<◌, length, get_or, set}
 use Rattle.lattice.specs.Label.{Ranged}
 use Rattle.layout.specs.declared.Label.{Label}
-use Rattle.layout.specs.Layout.{header, levels, rowFrom, linksFrom, rowEnd}
+use Rattle.layout.specs.Layout.{header, levels, row_from, links_from, row_end}
 
 -- the label that a value of the code states
 abbrev pub stated : Label → Ranged ℕ
@@ -14,8 +14,8 @@ abbrev pub unstated : Ranged ℕ → Label
 unstated l = record { kind = l.type; lowest = l.lowest; highest = l.highest }
 
 -- words with a label stored as the header at a place
-unfoldable pub putLabel : List ℕ → ℕ → Ranged ℕ → List ℕ
-putLabel ws at l = set (set ws at l.type) (at + 1) (l.lowest * levels + l.highest)
+unfoldable pub put_label : List ℕ → ℕ → Ranged ℕ → List ℕ
+put_label ws at l = set (set ws at l.type) (at + 1) (l.lowest * levels + l.highest)
 
 -- The first i rows stand between `base` and `at`, where the next one is to begin. The places below `base` say where rows begin.
 pub record Built (ws : List ℕ) (base i at : ℕ) : Type 0 where
@@ -23,9 +23,9 @@ pub record Built (ws : List ℕ) (base i at : ℕ) : Type 0 where
   pub low : base ≤ at
   pub high : at ≤ length ws
   pub next : get_or ws (i + 1) 0 ≡ at
-  pub lower : (v : ℕ) → v < i → base ≤ rowFrom ws v
-  pub begun : (v : ℕ) → v < i → linksFrom ws v ≤ rowEnd ws v
-  pub ended : (v : ℕ) → v < i → rowEnd ws v ≤ at
+  pub lower : (v : ℕ) → v < i → base ≤ row_from ws v
+  pub begun : (v : ℕ) → v < i → links_from ws v ≤ row_end ws v
+  pub ended : (v : ℕ) → v < i → row_end ws v ≤ at
 
 -- Row i begins at `at`, behind the rows built, and has its header and its links up to `end`.
 pub record Open (ws : List ℕ) (base i at end : ℕ) : Type 0 where

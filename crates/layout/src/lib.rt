@@ -3,10 +3,10 @@
 // record's bytes.
 
 ghost use Rattle.std.specs.Prelude.{◌≡◌, ◌+◌, ◌/◌, ◌%◌, ◌≤◌, ◌<◌, max, min, length};
-ghost use Rattle.lattice.specs.Label.{isFull};
+ghost use Rattle.lattice.specs.Label.{is_full};
 ghost use Rattle.lattice.specs.Labels.{Known};
-ghost use Rattle.layout.specs.Layout.{Shaped, header, label_at, labelFrom, linkWord, linksFrom, scale, size};
-ghost use Rattle.layout.specs.Builder.{putLabel, stated};
+ghost use Rattle.layout.specs.Layout.{Shaped, header, label_at, label_from, link_word, links_from, scale, size};
+ghost use Rattle.layout.specs.Builder.{put_label, stated};
 
 // The length of a row's header, which holds the node's label: its type, and its range of levels.
 pub const HEADER: usize = 2;
@@ -36,7 +36,7 @@ pub struct Label {
 
 // Whether a label has the full range.
 pub fn is_full(label: Label) -> bool
-    ensures { result ≡ isFull (stated label) }
+    ensures { result ≡ is_full (stated label) }
 {
     label.lowest as u16 * LEVELS + label.highest as u16 == FULL
 }
@@ -64,7 +64,7 @@ pub fn greater(a: u8, b: u8) -> u8
 // Stores a label as the header at a place.
 pub fn put_label(words: &mut [u16], at: usize, label: Label)
     requires { at + header ≤ length words.old }
-    ensures { words.new ≡ putLabel words.old at (stated label) }
+    ensures { words.new ≡ put_label words.old at (stated label) }
 {
     words[at] = label.kind as u16;
     words[at + 1] = label.lowest as u16 * LEVELS + label.highest as u16;
@@ -72,8 +72,8 @@ pub fn put_label(words: &mut [u16], at: usize, label: Label)
 
 // The label that the header at a place holds.
 pub fn label_from(words: &[u16], at: usize) -> Label
-    requires { (at + header ≤ length words.now) × Known 128 (labelFrom words.now at) }
-    ensures { stated result ≡ labelFrom words.now at }
+    requires { (at + header ≤ length words.now) × Known 128 (label_from words.now at) }
+    ensures { stated result ≡ label_from words.now at }
 {
     let range = words[at + 1];
     Label {
@@ -94,7 +94,7 @@ pub fn label_at(graph: &[u16], v: usize) -> Label
 // The word of a link.
 pub fn link(feature: u16, target: u16) -> u16
     requires { (feature < 64) × (target < 1024) }
-    ensures { result ≡ linkWord (feature, target) }
+    ensures { result ≡ link_word (feature, target) }
 {
     feature * SCALE + target
 }
@@ -116,7 +116,7 @@ pub fn target(word: u16) -> usize
 // Where the links of a node begin.
 pub fn links_from(graph: &[u16], v: usize) -> usize
     requires { v + 1 < length graph.now }
-    ensures { result ≡ linksFrom graph.now v }
+    ensures { result ≡ links_from graph.now v }
 {
     graph[v + 1] as usize + HEADER
 }

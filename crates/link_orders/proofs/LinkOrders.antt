@@ -7,10 +7,10 @@ use native.Mathlib.Decide.{ℕ_discrete}
 use native.Mathlib.Omega.{arith}
 use lib.ListN.{length, get_or, set, length-set}
 use lib.Seq.{get_or-set_same, get_or-set_other, ext_get_or}
-use Rattle.graphs.specs.Difference.{byNumber, byReading}
+use Rattle.graphs.specs.Difference.{by_number, by_reading}
 use Rattle.graphs.proofs.Search.{true-false}
 use Rattle.link_orders.specs.declared.LinkOrder.{LinkOrder}
-use Rattle.link_orders.specs.LinkOrders.{isReadingOrder, earlierBy, Fitting}
+use Rattle.link_orders.specs.LinkOrders.{is_reading_order, earlier_by, Fitting}
 use Rattle.link_orders.proofs.ReadingOrder.{reading}
 
 abbrev numbers : List ℕ → LinkOrder
@@ -19,18 +19,18 @@ numbers list = record { listed = false; list = list }
 abbrev lists : List ℕ → LinkOrder
 lists list = record { listed = true; list = list }
 
-pub number-order : (list : List ℕ) → Fitting (numbers list) × (earlierBy (numbers list) ≡ byNumber)
-unfolding earlierBy
+pub number-order : (list : List ℕ) → Fitting (numbers list) × (earlier_by (numbers list) ≡ by_number)
+unfolding earlier_by
 number-order list = (λ e. true-false e refl, refl)
 
 -- the first i features of the list stand in the copy
 pub record Copied (list : List ℕ) (i : ℕ) (copy : List ℕ) : Type 0 where
-  pub listed : isReadingOrder list ≡ true
+  pub listed : is_reading_order list ≡ true
   pub high : i ≤ 64
   pub long : length copy ≡ 64
   pub same : (k : ℕ) → k < i → get_or copy k 0 ≡ get_or list k 0
 
-pub copied-start : {list copy : List ℕ} → isReadingOrder list ≡ true → length copy ≡ 64 → Copied list 0 copy
+pub copied-start : {list copy : List ℕ} → is_reading_order list ≡ true → length copy ≡ 64 → Copied list 0 copy
 copied-start listed long = record { listed = listed; high = omega arith; long = long; same = λ k h. absurd (omega arith) }
 
 module _ {list copy : List ℕ} {i : ℕ} (c : Copied list i copy) where
@@ -53,9 +53,9 @@ module _ {list copy : List ℕ} {i : ℕ} (c : Copied list i copy) where
           ∙ sym (ap (λ (j : ℕ). get_or list j 0) e)
       go k l (no d) = get_or-set_other copy i k (get_or list i 0) 0 d ∙ c.same k (omega arith)
 
-  pub copied-order : 64 ≤ i → Fitting (lists copy) × (earlierBy (lists copy) ≡ byReading list)
-  unfolding earlierBy
-  copied-order h = (λ _. ap isReadingOrder whole ∙ c.listed, ap byReading whole)
+  pub copied-order : 64 ≤ i → Fitting (lists copy) × (earlier_by (lists copy) ≡ by_reading list)
+  unfolding earlier_by
+  copied-order h = (λ _. ap is_reading_order whole ∙ c.listed, ap by_reading whole)
     where
       whole : copy ≡ list
       whole = ext_get_or 0 copy list (c.long ∙ sym (reading list c.listed).long) (λ k l. c.same k (omega (arith, c.long)))

@@ -13,11 +13,11 @@ use lib.Seq.{get_or-set_same, get_or-set_other}
 use borrow.Author.Tests.{leb-true, le-leb, eqb-true, eq-eqb, ne_eqb}
 use Rattle.graphs.specs.Rows.{from}
 use Rattle.graphs.specs.Difference.{place_in}
-use Rattle.graphs.proofs.Lists.{from-range, length_from, remove, distinct-bound, distinct_from, full-places, getD-member}
+use Rattle.graphs.proofs.Lists.{from-range, length_from, remove, distinct-bound, distinct_from, full-places, get_or-member}
 use Rattle.graphs.proofs.Search.{not-true-false, true-both}
 use Rattle.lattice.specs.Table.{every}
 use Rattle.lattice.proofs.Every.{and_left, and_right, every-at, every-all}
-use Rattle.link_orders.specs.LinkOrders.{isReadingOrder, EachOnce}
+use Rattle.link_orders.specs.LinkOrders.{is_reading_order, EachOnce}
 
 -- What the test says of a list.
 
@@ -38,8 +38,8 @@ not_so : (a : Bool) → (a ≡ true → ⊥) → not a ≡ true
 not_so true h = absurd (h refl)
 not_so false h = refl
 
-pub reading : (list : List ℕ) → isReadingOrder list ≡ true → Reading list
-unfolding isReadingOrder fresh
+pub reading : (list : List ℕ) → is_reading_order list ≡ true → Reading list
+unfolding is_reading_order fresh
 reading list e =
     record {
       long = eqb-true (length list) 64 (and_left (eqb (length list) 64) (every 64 (fresh list)) e);
@@ -56,8 +56,8 @@ reading list e =
     at : (i : ℕ) → i < 64 → fresh list i ≡ true
     at i h = every-at (fresh list) 64 i (and_right (eqb (length list) 64) (every 64 (fresh list)) e) h
 
-pub reading-back : (list : List ℕ) → Reading list → isReadingOrder list ≡ true
-unfolding isReadingOrder fresh
+pub reading-back : (list : List ℕ) → Reading list → is_reading_order list ≡ true
+unfolding is_reading_order fresh
 reading-back list r =
     true-both (eqb (length list) 64) (every 64 (fresh list)) (eq-eqb (length list) 64 r.long)
     (every-all (fresh list) 64 λ i h.
@@ -90,13 +90,13 @@ once-reading {list} o = record { long = o.long; low = low; apart = apart }
         go : Dec (get_or list i 0 < 64) → get_or list i 0 < 64
         go (yes l) = l
         go (no d) =
-            let (rest, shorter, other) = remove (getD-member list i 0 (omega (arith, o.long))) in
+            let (rest, shorter, other) = remove (get_or-member list i 0 (omega (arith, o.long))) in
             let bound : length (from 0 64) ≤ length rest =
             distinct-bound (from 0 64) rest (distinct_from 0 64)
             (λ f m.
             let (at, l, e, _) = o.once f (from-range 0 64 f m).1 in
             ⊎_elim (λ (q : f ≡ get_or list i 0). absurd (omega (arith, from-range 0 64 f m))) (λ k. k)
-            (other f (subst (λ (x : ℕ). Memᴰ x list) e (getD-member list at 0 (omega (arith, o.long)))))) in
+            (other f (subst (λ (x : ℕ). Memᴰ x list) e (get_or-member list at 0 (omega (arith, o.long)))))) in
             absurd (omega (arith, o.long, length_from 0 64))
 
     apart : (i j : ℕ) → i < j → j < 64 → get_or list i 0 ≡ get_or list j 0 → ⊥
@@ -105,7 +105,7 @@ once-reading {list} o = record { long = o.long; low = low; apart = apart }
         omega (arith, one i (omega arith) refl, one j l (sym e))
 
 -- "a list of all 64 features, each once"
-pub reading-order : (list : List ℕ) → (isReadingOrder list ≡ true) ↔ EachOnce list
+pub reading-order : (list : List ℕ) → (is_reading_order list ≡ true) ↔ EachOnce list
 reading-order list = (
   λ e.
       let r = reading list e in
@@ -128,8 +128,8 @@ pub record Scanned (list : List ℕ) (i : ℕ) (seen : List ℕ) : Type 0 where
   pub told : (f : ℕ) → f < 64 → get_or seen f 0 ≡ 1 → (j : ℕ) × (j < i) × (get_or list j 0 ≡ f)
   pub met : (j : ℕ) → j < i → get_or seen (get_or list j 0) 0 ≡ 1
 
-pub not-long : (list : List ℕ) → (length list ≡ 64 → ⊥) → false ≡ isReadingOrder list
-not-long list d = sym (not-true-false (isReadingOrder list) λ e. d (reading list e).long)
+pub not-long : (list : List ℕ) → (length list ≡ 64 → ⊥) → false ≡ is_reading_order list
+not-long list d = sym (not-true-false (is_reading_order list) λ e. d (reading list e).long)
 
 pub scanned-start : {list seen : List ℕ} → length list ≡ 64 → length seen ≡ 64 → ((f : ℕ) → f < 64 → get_or seen f 0 ≡ 0) → Scanned list 0 seen
 scanned-start long room clear =
@@ -144,19 +144,19 @@ scanned-start long room clear =
     }
 
 module _ {list : List ℕ} {i : ℕ} {seen : List ℕ} (c : Scanned list i seen) where
-  pub scanned-done : 64 ≤ i → true ≡ isReadingOrder list
+  pub scanned-done : 64 ≤ i → true ≡ is_reading_order list
   scanned-done h =
       sym (reading-back list
       (record { long = c.long; low = λ k l. c.low k (omega arith); apart = λ j k l b. c.apart j k l (omega arith) }))
 
   module _ (more : i < 64) where
-    pub scanned-high : 64 ≤ get_or list i 0 → false ≡ isReadingOrder list
-    scanned-high h = sym (not-true-false (isReadingOrder list) λ e. omega (arith, (reading list e).low i more))
+    pub scanned-high : 64 ≤ get_or list i 0 → false ≡ is_reading_order list
+    scanned-high h = sym (not-true-false (is_reading_order list) λ e. omega (arith, (reading list e).low i more))
 
-    pub scanned-twice : get_or list i 0 < 64 → get_or seen (get_or list i 0) 0 ≡ 1 → false ≡ isReadingOrder list
+    pub scanned-twice : get_or list i 0 < 64 → get_or seen (get_or list i 0) 0 ≡ 1 → false ≡ is_reading_order list
     scanned-twice h e =
         let (j, l, q) = c.told (get_or list i 0) h e in
-        sym (not-true-false (isReadingOrder list) λ p. (reading list p).apart j i l more q)
+        sym (not-true-false (is_reading_order list) λ p. (reading list p).apart j i l more q)
 
     pub scanned-next : get_or list i 0 < 64 → (get_or seen (get_or list i 0) 0 ≡ 1 → ⊥) → Scanned list (i + 1) (set seen (get_or list i 0) 1)
     scanned-next small new =
@@ -211,7 +211,7 @@ pub record Placed (list : List ℕ) (i : ℕ) (at : List ℕ) : Type 0 where
   pub long : length at ≡ 64
   pub placed : (j : ℕ) → j < i → get_or at (get_or list j 0) 0 ≡ j
 
-pub placed-start : {list at : List ℕ} → isReadingOrder list ≡ true → length at ≡ 64 → Placed list 0 at
+pub placed-start : {list at : List ℕ} → is_reading_order list ≡ true → length at ≡ 64 → Placed list 0 at
 placed-start {list} e long =
     record { high = omega arith; order = reading list e; long = long; placed = λ j h. absurd (omega arith) }
 

@@ -1,13 +1,13 @@
 -- The order of links that a call for a difference asks for: document 01's, or that of the clinic's reading order, "a list of all 64
 -- features, each once" (document 02, Paper 10). The code computes with the rank that an order gives to each feature.
 use Rattle.std.specs.Prelude.{◌≡◌, Bool, true, cond, not, ◌&&◌, List, ℕ, suc, ◌<◌, leb, eqb, length, get_or}
-use Rattle.graphs.specs.Difference.{Link, byNumber, place_in, byReading}
+use Rattle.graphs.specs.Difference.{Link, by_number, place_in, by_reading}
 use Rattle.lattice.specs.Table.{every}
 use Rattle.link_orders.specs.declared.LinkOrder.{LinkOrder}
 
 -- The list has 64 bytes, none above 63 and none twice. "A list that is anything else is 19".
-unfoldable pub isReadingOrder : List ℕ → Bool
-isReadingOrder list =
+unfoldable pub is_reading_order : List ℕ → Bool
+is_reading_order list =
     eqb (length list) 64
     && every 64 λ i. leb (suc (get_or list i 0)) 64 && every i λ j. not (eqb (get_or list j 0) (get_or list i 0))
 
@@ -17,12 +17,12 @@ pub record EachOnce (list : List ℕ) : Type 0 where
   pub once : (f : ℕ) → f < 64 → (i : ℕ) × (i < 64) × (get_or list i 0 ≡ f) × ((j : ℕ) → j < 64 → get_or list j 0 ≡ f → j ≡ i)
 
 -- "by the feature's place in the list, then by parent number; 01's order remains for the call without a list"
-unfoldable pub earlierBy : LinkOrder → Link ℕ → Link ℕ → Bool
-earlierBy order = cond order.listed (byReading order.list) byNumber
+unfoldable pub earlier_by : LinkOrder → Link ℕ → Link ℕ → Bool
+earlier_by order = cond order.listed (by_reading order.list) by_number
 
 -- If the order has a list, the list is a reading order.
 abbrev pub Fitting : LinkOrder → Type 0
-Fitting order = order.listed ≡ true → isReadingOrder order.list ≡ true
+Fitting order = order.listed ≡ true → is_reading_order order.list ≡ true
 
 -- The rank of each feature is its place in the list, or 0 where the order has no list. Links of a lesser rank come first, and links of one
 -- rank come in the order of their places.

@@ -4,8 +4,8 @@
 // This crate knows features and lists of them, and no graph in words.
 
 ghost use Rattle.std.specs.Prelude.{◌≡◌, ℕ, ◌<◌, true, length, get_or};
-ghost use Rattle.graphs.specs.Difference.{byNumber, byReading, place_in};
-ghost use Rattle.link_orders.specs.LinkOrders.{Fitting, Ranks, earlierBy, isReadingOrder};
+ghost use Rattle.graphs.specs.Difference.{by_number, by_reading, place_in};
+ghost use Rattle.link_orders.specs.LinkOrders.{Fitting, Ranks, earlier_by, is_reading_order};
 
 // The number of features.
 pub const FEATURES: usize = 64;
@@ -20,7 +20,7 @@ pub struct LinkOrder {
 
 // Whether a list has all 64 features, each once.
 pub fn is_reading_order(list: &[u8]) -> bool
-    ensures { result ≡ isReadingOrder list.now }
+    ensures { result ≡ is_reading_order list.now }
 {
     if list.len() != FEATURES {
         return false;
@@ -43,7 +43,7 @@ pub fn is_reading_order(list: &[u8]) -> bool
 
 // The order of document 01: "Links are ordered by parent number, then feature."
 pub fn by_number() -> LinkOrder
-    ensures { Fitting result × (earlierBy result ≡ byNumber) }
+    ensures { Fitting result × (earlier_by result ≡ by_number) }
 {
     LinkOrder {
         listed: false,
@@ -53,8 +53,8 @@ pub fn by_number() -> LinkOrder
 
 // The order "by the feature's place in the list, then by parent number" (document 02, Paper 10), for a list of all 64 features, each once.
 pub fn by_list(list: &[u8]) -> LinkOrder
-    requires { isReadingOrder list.now ≡ true }
-    ensures { Fitting result × (earlierBy result ≡ byReading list.now) }
+    requires { is_reading_order list.now ≡ true }
+    ensures { Fitting result × (earlier_by result ≡ by_reading list.now) }
 {
     let mut copy = [0u8; FEATURES];
     let mut i = 0;
@@ -70,7 +70,7 @@ pub fn by_list(list: &[u8]) -> LinkOrder
 
 // The place of each feature in a list of all 64 features, each once.
 fn places(list: &[u8; FEATURES]) -> [u8; FEATURES]
-    requires { isReadingOrder list.now ≡ true }
+    requires { is_reading_order list.now ≡ true }
     ensures { (length result ≡ 64) × ((f : ℕ) → f < 64 → get_or result f 0 ≡ place_in list.now f) }
 {
     let mut at = [0u8; FEATURES];

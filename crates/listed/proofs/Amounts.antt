@@ -6,7 +6,7 @@ use native.Mathlib.Nat.{zero-mul, suc-mul, one-mul, mul-one, mul_left_comm, add_
 use native.Mathlib.Omega.{arith}
 use lib.ListN.{length, length-append, length-map}
 use Rattle.graphs.specs.Rows.{from}
-use Rattle.listed.specs.Listing.{span, runs, listing, recordOf}
+use Rattle.listed.specs.Listing.{span, runs, listing, record_of}
 
 -- Lists that begin with one of k numbers, where each number begins as many lists.
 spread-length : (make : ℕ → List (List ℕ)) (c a k : ℕ) → ((x : ℕ) → a ≤ x → x < a + k → length (make x) ≡ c) →
@@ -127,7 +127,7 @@ module _ (n : ℕ) (low : 2 ≤ n) where
   pub amount-one : length (listing n 1) ≡ (n - 1) + ((n - 1) * (n - 1) + (n - 1) * ((n - 1) * (n - 1)))
   unfolding listing runs span from flat_map
   amount-one =
-      length-map (runs (span n 1) [] 7) recordOf
+      length-map (runs (span n 1) [] 7) record_of
       ∙ three-parts (runs (span n 1) (1 ∷ []) 6) (runs (span n 1) (2 ∷ []) 6) (runs (span n 1) (3 ∷ []) 6) 1 2 3
       ∙ ap₂ (λ (u v : ℕ). u + v) (one-node n 1 low) (ap₂ (λ (u v : ℕ). u + v) two-chain three-chain)
 
@@ -229,6 +229,6 @@ module _ (n : ℕ) (low : 2 ≤ n) where
   pub amount-two : length (listing n 2) ≡ m + (3 * (m * m) + 16 * (m * (m * m)))
   unfolding listing runs span from flat_map
   amount-two =
-      length-map (runs (span n 2) [] 7) recordOf
+      length-map (runs (span n 2) [] 7) record_of
       ∙ three-parts (runs (span n 2) (1 ∷ []) 6) (runs (span n 2) (2 ∷ []) 6) (runs (span n 2) (3 ∷ []) 6) 1 2 3
       ∙ ap₂ (λ (u v : ℕ). u + v) (one-node n 2 low) (ap₂ (λ (u v : ℕ). u + v) two-nodes three-nodes)

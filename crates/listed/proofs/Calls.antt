@@ -9,7 +9,7 @@ use lib.ListN.{length}
 use Rattle.graphs.specs.Rows.{from}
 use Rattle.graphs.specs.Unify.{any_of}
 use Rattle.encoder.specs.Encode.{encoded}
-use Rattle.listed.specs.Listing.{precedes, Listed, statedRows, span, runs, listing, isListed}
+use Rattle.listed.specs.Listing.{precedes, Listed, stated_rows, span, runs, listing, is_listed}
 use Rattle.listed.proofs.Order.{Before, false-true, before-irrefl, before-cases}
 use Rattle.listed.proofs.Stated.{Counts}
 use Rattle.listed.proofs.Theorems.{listing-exactly}
@@ -52,8 +52,8 @@ member-any (y ∷ L) xs m =
     right true e = refl
     right false e = e
 
-pub is-listed : (n F : ℕ) → 2 ≤ n → n ≤ 64 → Counts F → (bytes : List ℕ) → (isListed n F bytes ≡ true) ↔ Listed n F bytes
-unfolding isListed
+pub is-listed : (n F : ℕ) → 2 ≤ n → n ≤ 64 → Counts F → (bytes : List ℕ) → (is_listed n F bytes ≡ true) ↔ Listed n F bytes
+unfolding is_listed
 is-listed n F low small f bytes = (
   λ e. (listing-exactly n F low small f bytes).0 (any-member (listing n F) bytes e),
   λ l. member-any (listing n F) bytes ((listing-exactly n F low small f bytes).1 l),
@@ -61,8 +61,8 @@ is-listed n F low small f bytes = (
 
 -- "Over a two-type table with F of 1 the list has three records: chains of one, two and three nodes."
 pub three : listing 2 1 ≡
-    encoded (statedRows (1 ∷ 1 ∷ 0 ∷ 0 ∷ 0 ∷ 0 ∷ 0 ∷ [])) ∷ encoded (statedRows (2 ∷ 1 ∷ 1 ∷ 1 ∷ 0 ∷ 0 ∷ 0 ∷ [])) ∷
-    encoded (statedRows (3 ∷ 1 ∷ 1 ∷ 1 ∷ 1 ∷ 1 ∷ 0 ∷ [])) ∷ []
+    encoded (stated_rows (1 ∷ 1 ∷ 0 ∷ 0 ∷ 0 ∷ 0 ∷ 0 ∷ [])) ∷ encoded (stated_rows (2 ∷ 1 ∷ 1 ∷ 1 ∷ 0 ∷ 0 ∷ 0 ∷ [])) ∷
+    encoded (stated_rows (3 ∷ 1 ∷ 1 ∷ 1 ∷ 1 ∷ 1 ∷ 0 ∷ [])) ∷ []
 unfolding listing runs span from flat_map
 three = refl
 

@@ -12,25 +12,25 @@ use Rattle.graphs.specs.Graph.{Graph, TellsApart, Reached}
 use Rattle.graphs.specs.Rows.{Row, features}
 use Rattle.graphs.specs.Number.{canonical, row_of, written}
 use Rattle.graphs.specs.Large.{ManyNodes, ManyLinks}
-use Rattle.graphs.proofs.Lists.{mem-features, length_from, flatMap-member, distinct-bound}
+use Rattle.graphs.proofs.Lists.{mem-features, length_from, flat_map-member, distinct-bound}
 use Rattle.graphs.proofs.Form.Canonical.{canonical-written, seen-reached, seen-distinct}
 use Rattle.graphs.proofs.Form.Large.{canonical-fits}
 
 -- a node with each of the 64 features
-withFeatures : {A : Type 0} → A → List (A × ℕ)
-withFeatures v = map (λ f. (v, f)) features
+with_features : {A : Type 0} → A → List (A × ℕ)
+with_features v = map (λ f. (v, f)) features
 
-features-member : {A : Type 0} (v : A) (f : ℕ) → f < 64 → Memᴰ (v, f) (withFeatures v)
-unfolding withFeatures
+features-member : {A : Type 0} (v : A) (f : ℕ) → f < 64 → Memᴰ (v, f) (with_features v)
+unfolding with_features
 features-member {A} v f h = Memᴰ.map {B = A × ℕ} (λ f. (v, f)) (mem-features f h)
 
-features-length : {A : Type 0} (vs : List A) → length (flat_map withFeatures vs) ≡ 64 * length vs
-unfolding flat_map withFeatures
+features-length : {A : Type 0} (vs : List A) → length (flat_map with_features vs) ≡ 64 * length vs
+unfolding flat_map with_features
 features-length [] = refl
 features-length {A} (v ∷ vs) =
     omega (
       arith,
-      length-append (withFeatures v) (flat_map withFeatures vs),
+      length-append (with_features v) (flat_map with_features vs),
       length-map {B = A × ℕ} features (λ f. (v, f)),
       length_from 0 64,
       features-length vs,
@@ -46,9 +46,9 @@ module _ {L A : Type 0} (g : Graph L A) (narrow : (v w : A) (f : ℕ) → Reache
 
   few-links : ManyLinks g → ⊥
   few-links (ls, d, leaves, h) =
-      let short = distinct-bound ls (flat_map withFeatures nodes) d
+      let short = distinct-bound ls (flat_map with_features nodes) d
       (λ l m. let (r, (w, e)) = leaves l m in
-      flatMap-member withFeatures (all l.0 r) (features-member l.0 l.1 (narrow l.0 w l.1 r e))) in
+      flat_map-member with_features (all l.0 r) (features-member l.0 l.1 (narrow l.0 w l.1 r e))) in
       omega (arith, features-length nodes)
 
   -- the written form, with at most three rows

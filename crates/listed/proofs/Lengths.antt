@@ -7,7 +7,7 @@ use native.Mathlib.Omega.{arith}
 use borrow.Author.Tests.{eqb-true}
 use lib.Dec.{eqb}
 use lib.ListN.{length}
-use Rattle.listed.specs.Listing.{Listed, Run, span, recordOf}
+use Rattle.listed.specs.Listing.{Listed, Run, span, record_of}
 use Rattle.listed.specs.Numbers.{width}
 use Rattle.listed.proofs.Stated.{Counts, listed-told}
 use Rattle.listed.proofs.Within.{Within, run-within}
@@ -25,7 +25,7 @@ last-width c₀ c₁ c₂ h = go (eqb c₀ 4) (eqb c₁ 0) refl h
     go true false e q = none_last q
     go false b e q = none_last q
 
-short-at : (n F N t₀ c₀ t₁ c₁ t₂ c₂ : ℕ) → Within n F N t₀ c₀ t₁ c₁ t₂ c₂ → length (recordOf (numbered t₀ c₀ t₁ c₁ t₂ c₂ N)) ≤ 32
+short-at : (n F N t₀ c₀ t₁ c₁ t₂ c₂ : ℕ) → Within n F N t₀ c₀ t₁ c₁ t₂ c₂ → length (record_of (numbered t₀ c₀ t₁ c₁ t₂ c₂ N)) ≤ 32
 short-at n F zero t₀ c₀ t₁ c₁ t₂ c₂ w = absurd (omega (arith, w.nodes.0))
 short-at n F (suc zero) t₀ c₀ t₁ c₁ t₂ c₂ w = omega (arith, length-one t₀ c₀ t₁ c₁ t₂ c₂, width_small c₀)
 short-at n F (suc (suc zero)) t₀ c₀ t₁ c₁ t₂ c₂ w = omega (arith, length_two t₀ c₀ t₁ c₁ t₂ c₂, width_small c₀, width_small c₁)
@@ -33,7 +33,7 @@ short-at n F (suc (suc (suc zero))) t₀ c₀ t₁ c₁ t₂ c₂ w =
     omega (arith, length_three t₀ c₀ t₁ c₁ t₂ c₂, width_small c₀, last-width c₀ c₁ c₂ w.links2.1)
 short-at n F (suc (suc (suc (suc N)))) t₀ c₀ t₁ c₁ t₂ c₂ w = absurd (omega (arith, w.nodes.1))
 
-short-run : (n F : ℕ) (d : List ℕ) → length d ≡ 7 → Run (span n F) [] d → length (recordOf d) ≤ 32
+short-run : (n F : ℕ) (d : List ℕ) → length d ≡ 7 → Run (span n F) [] d → length (record_of d) ≤ 32
 short-run n F [] e r = absurd (omega arith)
 short-run n F (a ∷ []) e r = absurd (omega arith)
 short-run n F (a ∷ b ∷ []) e r = absurd (omega arith)

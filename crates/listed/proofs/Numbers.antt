@@ -9,16 +9,16 @@ use borrow.Author.Tests.{eq-eqb, ne_eqb}
 use lib.Dec.{eqb, leb}
 use lib.ListN.{length, get_or}
 use Rattle.graphs.specs.Rows.{from, target}
-use Rattle.lattice.specs.Label.{isFull}
-use Rattle.encoder.specs.Encode.{encoded, encodedRows, encodedRow, encodedLabel, bitsFrom}
-use Rattle.listed.specs.Listing.{Listed, linkSet, statedRows, span, sets, recordOf, Run}
-use Rattle.listed.specs.Numbers.{width, rootLinks, numbersOf}
+use Rattle.lattice.specs.Label.{is_full}
+use Rattle.encoder.specs.Encode.{encoded, encoded_rows, encoded_row, encoded_label, bits_from}
+use Rattle.listed.specs.Listing.{Listed, link_set, stated_rows, span, sets, record_of, Run}
+use Rattle.listed.specs.Numbers.{width, root_links, numbers_of}
 use Rattle.listed.proofs.Bytes.{sets-small}
 use Rattle.listed.proofs.Stated.{Counts, listed-told}
 
 -- the last node's links by its feature map
-last-links : (c : ℕ) → c ≤ 3 → bitsFrom (linkSet 2 c) 0 8 ≡ c
-unfolding bitsFrom target
+last-links : (c : ℕ) → c ≤ 3 → bits_from (link_set 2 c) 0 8 ≡ c
+unfolding bits_from target
 last-links zero h = refl
 last-links (suc zero) h = refl
 last-links (suc (suc zero)) h = refl
@@ -37,8 +37,8 @@ seven N t₀ c₀ t₁ c₁ t₂ c₂ = N ∷ t₀ ∷ c₀ ∷ t₁ ∷ c₁ �
 
 -- the numbers of three nodes, of which the first two have links with these numbers
 three-numbers : (c₀ c₁ : ℕ) (t₀ t₁ t₂ c₂ : ℕ) → 1 ≤ c₀ → c₀ ≤ 4 → c₁ ≤ 3 → c₂ ≤ 3 →
-    numbersOf (recordOf (seven 3 t₀ c₀ t₁ c₁ t₂ c₂)) ≡ seven 3 t₀ c₀ t₁ c₁ t₂ c₂
-unfolding encoded encodedRows encodedRow encodedLabel isFull statedRows bitsFrom target from
+    numbers_of (record_of (seven 3 t₀ c₀ t₁ c₁ t₂ c₂)) ≡ seven 3 t₀ c₀ t₁ c₁ t₂ c₂
+unfolding encoded encoded_rows encoded_row encoded_label is_full stated_rows bits_from target from
 three-numbers zero c₁ t₀ t₁ t₂ c₂ l h k m = absurd (omega arith)
 three-numbers (suc zero) zero t₀ t₁ t₂ c₂ l h k m = ap (λ (c : ℕ). seven 3 t₀ 1 t₁ 0 t₂ c) (last-links c₂ m)
 three-numbers (suc zero) (suc zero) t₀ t₁ t₂ c₂ l h k m = ap (λ (c : ℕ). seven 3 t₀ 1 t₁ 1 t₂ c) (last-links c₂ m)
@@ -62,16 +62,16 @@ three-numbers (suc (suc (suc (suc zero)))) (suc (suc (suc zero))) t₀ t₁ t₂
 three-numbers (suc (suc (suc (suc zero)))) (suc (suc (suc (suc c₁)))) t₀ t₁ t₂ c₂ l h k m = absurd (omega arith)
 three-numbers (suc (suc (suc (suc (suc c₀))))) c₁ t₀ t₁ t₂ c₂ l h k m = absurd (omega arith)
 
-two-numbers : (c₀ : ℕ) (t₀ t₁ : ℕ) → 1 ≤ c₀ → c₀ ≤ 3 → numbersOf (recordOf (seven 2 t₀ c₀ t₁ 0 0 0)) ≡ seven 2 t₀ c₀ t₁ 0 0 0
-unfolding encoded encodedRows encodedRow encodedLabel isFull statedRows bitsFrom target from
+two-numbers : (c₀ : ℕ) (t₀ t₁ : ℕ) → 1 ≤ c₀ → c₀ ≤ 3 → numbers_of (record_of (seven 2 t₀ c₀ t₁ 0 0 0)) ≡ seven 2 t₀ c₀ t₁ 0 0 0
+unfolding encoded encoded_rows encoded_row encoded_label is_full stated_rows bits_from target from
 two-numbers zero t₀ t₁ l h = absurd (omega arith)
 two-numbers (suc zero) t₀ t₁ l h = refl
 two-numbers (suc (suc zero)) t₀ t₁ l h = refl
 two-numbers (suc (suc (suc zero))) t₀ t₁ l h = refl
 two-numbers (suc (suc (suc (suc c₀)))) t₀ t₁ l h = absurd (omega arith)
 
-one-numbers : (t₀ : ℕ) → numbersOf (recordOf (seven 1 t₀ 0 0 0 0 0)) ≡ seven 1 t₀ 0 0 0 0 0
-unfolding encoded encodedRows encodedRow encodedLabel isFull statedRows bitsFrom target from
+one-numbers : (t₀ : ℕ) → numbers_of (record_of (seven 1 t₀ 0 0 0 0 0)) ≡ seven 1 t₀ 0 0 0 0 0
+unfolding encoded encoded_rows encoded_row encoded_label is_full stated_rows bits_from target from
 one-numbers t₀ = refl
 
 module _ (n F : ℕ) where
@@ -87,7 +87,7 @@ module _ (n F : ℕ) where
 
   -- The bytes of a record give back its numbers.
   numbers-at : (N t₀ c₀ t₁ c₁ t₂ c₂ : ℕ) → Run (span n F) [] (seven N t₀ c₀ t₁ c₁ t₂ c₂) →
-      numbersOf (recordOf (seven N t₀ c₀ t₁ c₁ t₂ c₂)) ≡ seven N t₀ c₀ t₁ c₁ t₂ c₂
+      numbers_of (record_of (seven N t₀ c₀ t₁ c₁ t₂ c₂)) ≡ seven N t₀ c₀ t₁ c₁ t₂ c₂
   unfolding span
   numbers-at zero t₀ c₀ t₁ c₁ t₂ c₂ (a, b, r) = absurd (omega arith)
   numbers-at (suc zero) t₀ c₀ t₁ c₁ t₂ c₂ (a, b, (lt₀, ht₀, (lc₀, hc₀, (lt₁, ht₁, (lc₁, hc₁, (lt₂, ht₂, (lc₂, hc₂, _))))))) =
@@ -96,24 +96,24 @@ module _ (n F : ℕ) where
       let e₁ : 0 ≡ c₁ = omega arith in
       let i₂ : 0 ≡ t₂ = omega arith in
       let e₂ : 0 ≡ c₂ = omega arith in
-      subst (λ (c : ℕ). numbersOf (recordOf (seven 1 t₀ c t₁ c₁ t₂ c₂)) ≡ seven 1 t₀ c t₁ c₁ t₂ c₂) e₀
-      (subst (λ (t : ℕ). numbersOf (recordOf (seven 1 t₀ 0 t c₁ t₂ c₂)) ≡ seven 1 t₀ 0 t c₁ t₂ c₂) i₁
-      (subst (λ (c : ℕ). numbersOf (recordOf (seven 1 t₀ 0 0 c t₂ c₂)) ≡ seven 1 t₀ 0 0 c t₂ c₂) e₁
-      (subst (λ (t : ℕ). numbersOf (recordOf (seven 1 t₀ 0 0 0 t c₂)) ≡ seven 1 t₀ 0 0 0 t c₂) i₂
-      (subst (λ (c : ℕ). numbersOf (recordOf (seven 1 t₀ 0 0 0 0 c)) ≡ seven 1 t₀ 0 0 0 0 c) e₂ (one-numbers t₀)))))
+      subst (λ (c : ℕ). numbers_of (record_of (seven 1 t₀ c t₁ c₁ t₂ c₂)) ≡ seven 1 t₀ c t₁ c₁ t₂ c₂) e₀
+      (subst (λ (t : ℕ). numbers_of (record_of (seven 1 t₀ 0 t c₁ t₂ c₂)) ≡ seven 1 t₀ 0 t c₁ t₂ c₂) i₁
+      (subst (λ (c : ℕ). numbers_of (record_of (seven 1 t₀ 0 0 c t₂ c₂)) ≡ seven 1 t₀ 0 0 c t₂ c₂) e₁
+      (subst (λ (t : ℕ). numbers_of (record_of (seven 1 t₀ 0 0 0 t c₂)) ≡ seven 1 t₀ 0 0 0 t c₂) i₂
+      (subst (λ (c : ℕ). numbers_of (record_of (seven 1 t₀ 0 0 0 0 c)) ≡ seven 1 t₀ 0 0 0 0 c) e₂ (one-numbers t₀)))))
   numbers-at (suc (suc zero)) t₀ c₀ t₁ c₁ t₂ c₂ (a, b, (lt₀, ht₀, (lc₀, hc₀, (lt₁, ht₁, (lc₁, hc₁, (lt₂, ht₂, (lc₂, hc₂, _))))))) =
       let e₁ : 0 ≡ c₁ = omega arith in
       let i₂ : 0 ≡ t₂ = omega arith in
       let e₂ : 0 ≡ c₂ = omega arith in
-      subst (λ (c : ℕ). numbersOf (recordOf (seven 2 t₀ c₀ t₁ c t₂ c₂)) ≡ seven 2 t₀ c₀ t₁ c t₂ c₂) e₁
-      (subst (λ (t : ℕ). numbersOf (recordOf (seven 2 t₀ c₀ t₁ 0 t c₂)) ≡ seven 2 t₀ c₀ t₁ 0 t c₂) i₂
-      (subst (λ (c : ℕ). numbersOf (recordOf (seven 2 t₀ c₀ t₁ 0 0 c)) ≡ seven 2 t₀ c₀ t₁ 0 0 c) e₂
+      subst (λ (c : ℕ). numbers_of (record_of (seven 2 t₀ c₀ t₁ c t₂ c₂)) ≡ seven 2 t₀ c₀ t₁ c t₂ c₂) e₁
+      (subst (λ (t : ℕ). numbers_of (record_of (seven 2 t₀ c₀ t₁ 0 t c₂)) ≡ seven 2 t₀ c₀ t₁ 0 t c₂) i₂
+      (subst (λ (c : ℕ). numbers_of (record_of (seven 2 t₀ c₀ t₁ 0 0 c)) ≡ seven 2 t₀ c₀ t₁ 0 0 c) e₂
       (two-numbers c₀ t₀ t₁ lc₀ (middle-small c₀ hc₀))))
   numbers-at (suc (suc (suc zero))) t₀ c₀ t₁ c₁ t₂ c₂ (a, b, (lt₀, ht₀, (lc₀, hc₀, (lt₁, ht₁, (lc₁, hc₁, (lt₂, ht₂, (lc₂, hc₂, _))))))) =
       three-numbers c₀ c₁ t₀ t₁ t₂ c₂ lc₀ (root-small c₀ hc₀) (middle-small c₁ hc₁) (last-small c₀ c₁ c₂ hc₂)
   numbers-at (suc (suc (suc (suc N)))) t₀ c₀ t₁ c₁ t₂ c₂ (a, b, r) = absurd (omega arith)
 
-  pub record-numbers : (d : List ℕ) → length d ≡ 7 → Run (span n F) [] d → numbersOf (recordOf d) ≡ d
+  pub record-numbers : (d : List ℕ) → length d ≡ 7 → Run (span n F) [] d → numbers_of (record_of d) ≡ d
   record-numbers [] e r = absurd (omega arith)
   record-numbers (a ∷ []) e r = absurd (omega arith)
   record-numbers (a ∷ b ∷ []) e r = absurd (omega arith)
@@ -125,19 +125,19 @@ module _ (n F : ℕ) where
   record-numbers (a ∷ b ∷ c ∷ d ∷ x ∷ y ∷ z ∷ w ∷ more) e r = absurd (omega arith)
 
   -- A listed record is the record of its numbers, and the numbers are within their bounds.
-  pub listed-numbers : Counts F → (bytes : List ℕ) → Listed n F bytes → Run (span n F) [] (numbersOf bytes) × (bytes ≡ recordOf (numbersOf bytes))
+  pub listed-numbers : Counts F → (bytes : List ℕ) → Listed n F bytes → Run (span n F) [] (numbers_of bytes) × (bytes ≡ record_of (numbers_of bytes))
   listed-numbers f bytes l =
       let (d, long, r, e) = listed-told n F f bytes l in
-      let same : d ≡ numbersOf bytes = sym (ap numbersOf e ∙ record-numbers d long r) in
-      (subst (λ (x : List ℕ). Run (span n F) [] x) same r, e ∙ ap recordOf same)
+      let same : d ≡ numbers_of bytes = sym (ap numbers_of e ∙ record-numbers d long r) in
+      (subst (λ (x : List ℕ). Run (span n F) [] x) same r, e ∙ ap record_of same)
 
 -- The numbers that the code reads off the bytes.
 module _ (bytes : List ℕ) (m : ℕ) (is : m ≡ get_or bytes 2 0) where
-  abbrev rootBy : Bool → Bool → ℕ
-  rootBy a b = cond (a && not b) 4 (get_or bytes 2 0)
+  abbrev root_by : Bool → Bool → ℕ
+  root_by a b = cond (a && not b) 4 (get_or bytes 2 0)
 
-  pub root-other : m ≢ 3 → m ≡ rootLinks bytes
-  root-other h = is ∙ sym (ap (λ (a : Bool). rootBy a (eqb (get_or bytes 10 0) (get_or bytes 11 0))) (ap (λ (x : ℕ). eqb x 3) (sym is) ∙ ne_eqb m 3 h))
+  pub root-other : m ≢ 3 → m ≡ root_links bytes
+  root-other h = is ∙ sym (ap (λ (a : Bool). root_by a (eqb (get_or bytes 10 0) (get_or bytes 11 0))) (ap (λ (x : ℕ). eqb x 3) (sym is) ∙ ne_eqb m 3 h))
 
   module _ (e : m ≡ 3) (a b : ℕ) (is-a : a ≡ get_or bytes 10 0) (is_b : b ≡ get_or bytes 11 0) where
     three-told : eqb (get_or bytes 2 0) 3 ≡ true
@@ -146,25 +146,25 @@ module _ (bytes : List ℕ) (m : ℕ) (is : m ≡ get_or bytes 2 0) where
     both_told : eqb (get_or bytes 10 0) (get_or bytes 11 0) ≡ eqb a b
     both_told = sym (ap₂ eqb is-a is_b)
 
-    pub root-three : a ≡ b → 3 ≡ rootLinks bytes
-    root-three h = sym e ∙ is ∙ sym (ap₂ rootBy three-told (both_told ∙ eq-eqb a b h))
+    pub root-three : a ≡ b → 3 ≡ root_links bytes
+    root-three h = sym e ∙ is ∙ sym (ap₂ root_by three-told (both_told ∙ eq-eqb a b h))
 
-    pub root-four : a ≢ b → 4 ≡ rootLinks bytes
-    root-four h = sym (ap₂ rootBy three-told (both_told ∙ ne_eqb a b h))
+    pub root-four : a ≢ b → 4 ≡ root_links bytes
+    root-four h = sym (ap₂ root_by three-told (both_told ∙ ne_eqb a b h))
 
-pub numbers-are : (bytes : List ℕ) (N t₀ c₀ w₀ t₁ c₁ w₁ t₂ c₂ : ℕ) → N ≡ get_or bytes 0 0 → t₀ ≡ get_or bytes 1 0 → c₀ ≡ rootLinks bytes → w₀ ≡ width c₀ →
+pub numbers-are : (bytes : List ℕ) (N t₀ c₀ w₀ t₁ c₁ w₁ t₂ c₂ : ℕ) → N ≡ get_or bytes 0 0 → t₀ ≡ get_or bytes 1 0 → c₀ ≡ root_links bytes → w₀ ≡ width c₀ →
     t₁ ≡ cond (leb 2 N) (get_or bytes (10 + w₀) 0) 0 → c₁ ≡ cond (leb 2 N) (get_or bytes (10 + w₀ + 1) 0) 0 → w₁ ≡ width c₁ →
     t₂ ≡ cond (leb 3 N) (get_or bytes (10 + w₀ + 9 + w₁) 0) 0 → c₂ ≡ cond (leb 3 N) (get_or bytes (10 + w₀ + 9 + w₁ + 1) 0) 0 →
-    seven N t₀ c₀ t₁ c₁ t₂ c₂ ≡ numbersOf bytes
+    seven N t₀ c₀ t₁ c₁ t₂ c₂ ≡ numbers_of bytes
 numbers-are bytes N t₀ c₀ w₀ t₁ c₁ w₁ t₂ c₂ a b c d e f g h i =
-    let wide : w₀ ≡ width (rootLinks bytes) = d ∙ ap width c in
-    let links : c₁ ≡ cond (leb 2 (get_or bytes 0 0)) (get_or bytes (10 + width (rootLinks bytes) + 1) 0) 0 = f ∙ ap₂ (λ (m w : ℕ). cond (leb 2 m) (get_or bytes (10 + w + 1) 0) 0) a wide in
-    let type : t₁ ≡ cond (leb 2 (get_or bytes 0 0)) (get_or bytes (10 + width (rootLinks bytes)) 0) 0 = e ∙ ap₂ (λ (m w : ℕ). cond (leb 2 m) (get_or bytes (10 + w) 0) 0) a wide in
-    let next : w₁ ≡ width (cond (leb 2 (get_or bytes 0 0)) (get_or bytes (10 + width (rootLinks bytes) + 1) 0) 0) = g ∙ ap width links in
+    let wide : w₀ ≡ width (root_links bytes) = d ∙ ap width c in
+    let links : c₁ ≡ cond (leb 2 (get_or bytes 0 0)) (get_or bytes (10 + width (root_links bytes) + 1) 0) 0 = f ∙ ap₂ (λ (m w : ℕ). cond (leb 2 m) (get_or bytes (10 + w + 1) 0) 0) a wide in
+    let type : t₁ ≡ cond (leb 2 (get_or bytes 0 0)) (get_or bytes (10 + width (root_links bytes)) 0) 0 = e ∙ ap₂ (λ (m w : ℕ). cond (leb 2 m) (get_or bytes (10 + w) 0) 0) a wide in
+    let next : w₁ ≡ width (cond (leb 2 (get_or bytes 0 0)) (get_or bytes (10 + width (root_links bytes) + 1) 0) 0) = g ∙ ap width links in
     rest type links
     (h ∙ ap (λ (m : ℕ). cond (leb 3 m) (get_or bytes (10 + w₀ + 9 + w₁) 0) 0) a ∙ ap₂ (λ (w u : ℕ). cond (leb 3 (get_or bytes 0 0)) (get_or bytes (10 + w + 9 + u) 0) 0) wide next)
     (i ∙ ap (λ (m : ℕ). cond (leb 3 m) (get_or bytes (10 + w₀ + 9 + w₁ + 1) 0) 0) a
     ∙ ap₂ (λ (w u : ℕ). cond (leb 3 (get_or bytes 0 0)) (get_or bytes (10 + w + 9 + u + 1) 0) 0) wide next)
   where
-    rest : {x y z u : ℕ} → t₁ ≡ x → c₁ ≡ y → t₂ ≡ z → c₂ ≡ u → seven N t₀ c₀ t₁ c₁ t₂ c₂ ≡ seven (get_or bytes 0 0) (get_or bytes 1 0) (rootLinks bytes) x y z u
+    rest : {x y z u : ℕ} → t₁ ≡ x → c₁ ≡ y → t₂ ≡ z → c₂ ≡ u → seven N t₀ c₀ t₁ c₁ t₂ c₂ ≡ seven (get_or bytes 0 0) (get_or bytes 1 0) (root_links bytes) x y z u
     rest p q r s = cc

@@ -11,7 +11,7 @@ use native.Mathlib.Decide.{ℕ_discrete, dec_le}
 use borrow.Author.Tests.{lt-ltb, ltb-true, eq-eqb, eqb-true}
 use lib.Dec.{eqb, ltb}
 use Rattle.graphs.proofs.Search.{both_true, true-both, either_true, true-right, true-left}
-use Rattle.listed.specs.Listing.{precedes, firstAfter}
+use Rattle.listed.specs.Listing.{precedes, first_after}
 
 abbrev pub Before : List ℕ → List ℕ → Type 0
 Before xs ys = precedes xs ys ≡ true
@@ -136,12 +136,12 @@ pub record Least (L : List (List ℕ)) (bytes r : List ℕ) : Type 0 where
   pub above : Before bytes r
   pub least : (s : List ℕ) → Memᴰ s L → Before bytes s → Before s r → ⊥
 
-pub first-least : (L : List (List ℕ)) (bytes r : List ℕ) → Ascends L → firstAfter bytes L ≡ some r → Least L bytes r
-unfolding firstAfter
+pub first-least : (L : List (List ℕ)) (bytes r : List ℕ) → Ascends L → first_after bytes L ≡ some r → Least L bytes r
+unfolding first_after
 first-least [] bytes r a e = absurd (let z : ◌≡◌ {A = ℕ} 0 1 = cc in omega arith)
 first-least (x ∷ L) bytes r a e = go (precedes bytes x) refl e (first-least L bytes r a.1)
   where
-    go : (b : Bool) → precedes bytes x ≡ b → cond b (some x) (firstAfter bytes L) ≡ some r → (firstAfter bytes L ≡ some r → Least L bytes r) → Least (x ∷ L) bytes r
+    go : (b : Bool) → precedes bytes x ≡ b → cond b (some x) (first_after bytes L) ≡ some r → (first_after bytes L ≡ some r → Least L bytes r) → Least (x ∷ L) bytes r
     go true t q rest =
         let same : x ≡ r = cc in
         record {
@@ -158,29 +158,29 @@ first-least (x ∷ L) bytes r a e = go (precedes bytes x) refl e (first-least L 
           least = λ s m h k. ⊎_elim (λ (i : s ≡ x). false-true (sym t ∙ subst (λ (w : List ℕ). Before bytes w) i h)) (λ n. l.least s n h k) (Memᴰ.cases_cons m);
         }
 
-pub none_above : (L : List (List ℕ)) (bytes s : List ℕ) → firstAfter bytes L ≡ none → Memᴰ s L → Before bytes s → ⊥
-unfolding firstAfter
+pub none_above : (L : List (List ℕ)) (bytes s : List ℕ) → first_after bytes L ≡ none → Memᴰ s L → Before bytes s → ⊥
+unfolding first_after
 none_above [] bytes s e m h = Memᴰ.not-nil m
 none_above (x ∷ L) bytes s e m h = go (precedes bytes x) refl e (λ q n. none_above L bytes s q n h)
   where
-    go : (b : Bool) → precedes bytes x ≡ b → cond b (some x) (firstAfter bytes L) ≡ none → (firstAfter bytes L ≡ none → Memᴰ s L → ⊥) → ⊥
+    go : (b : Bool) → precedes bytes x ≡ b → cond b (some x) (first_after bytes L) ≡ none → (first_after bytes L ≡ none → Memᴰ s L → ⊥) → ⊥
     go true t q rest = let z : ◌≡◌ {A = ℕ} 0 1 = cc in omega arith
     go false t q rest = ⊎_elim (λ (i : s ≡ x). false-true (sym t ∙ subst (λ (w : List ℕ). Before bytes w) i h)) (rest q) (Memᴰ.cases_cons m)
 
 -- The least record above the bytes is the first that the bytes precede.
-pub least_first : (L : List (List ℕ)) (bytes r : List ℕ) → Ascends L → Least L bytes r → firstAfter bytes L ≡ some r
-least_first L bytes r a l = go (firstAfter bytes L) refl
+pub least_first : (L : List (List ℕ)) (bytes r : List ℕ) → Ascends L → Least L bytes r → first_after bytes L ≡ some r
+least_first L bytes r a l = go (first_after bytes L) refl
   where
-    go : (o : Option (List ℕ)) → firstAfter bytes L ≡ o → o ≡ some r
+    go : (o : Option (List ℕ)) → first_after bytes L ≡ o → o ≡ some r
     go none e = absurd (none_above L bytes r e l.among l.above)
     go (some s) e =
         let k = first-least L bytes s a e in
         ⊎_elim (λ (h : Before s r). absurd (l.least s k.among k.above h))
         (⊎_elim (λ (q : s ≡ r). ap {B = Option (List ℕ)} some q) (λ (h : Before r s). absurd (k.least r l.among l.above h))) (before-cases s r)
 
-pub above-none : (L : List (List ℕ)) (bytes : List ℕ) → Ascends L → ((s : List ℕ) → Memᴰ s L → Before bytes s → ⊥) → firstAfter bytes L ≡ none
-above-none L bytes a h = go (firstAfter bytes L) refl
+pub above-none : (L : List (List ℕ)) (bytes : List ℕ) → Ascends L → ((s : List ℕ) → Memᴰ s L → Before bytes s → ⊥) → first_after bytes L ≡ none
+above-none L bytes a h = go (first_after bytes L) refl
   where
-    go : (o : Option (List ℕ)) → firstAfter bytes L ≡ o → o ≡ none
+    go : (o : Option (List ℕ)) → first_after bytes L ≡ o → o ≡ none
     go none e = refl
     go (some s) e = let k = first-least L bytes s a e in absurd (h s k.among k.above)

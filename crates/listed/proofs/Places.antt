@@ -12,14 +12,14 @@ use lib.Seq.{get_or-append-add, get_or-take}
 use Rattle.graphs.specs.Rows.{from, target}
 use Rattle.graphs.specs.Order.{all_of}
 use Rattle.graphs.proofs.Search.{both_true}
-use Rattle.lattice.specs.Label.{isFull}
-use Rattle.encoder.specs.Encode.{encoded, encodedRows, encodedRow, encodedLabel, bitsFrom}
-use Rattle.listed.specs.Listing.{heir, linkSet, statedRows, span, recordOf, Run}
-use Rattle.listed.specs.Numbers.{width, linkBytes, rowBytes}
+use Rattle.lattice.specs.Label.{is_full}
+use Rattle.encoder.specs.Encode.{encoded, encoded_rows, encoded_row, encoded_label, bits_from}
+use Rattle.listed.specs.Listing.{heir, link_set, stated_rows, span, record_of, Run}
+use Rattle.listed.specs.Numbers.{width, link_bytes, row_bytes}
 
 -- Lengths.
 
-same_width : (v c : ℕ) → length (linkSet v c) ≡ width c
+same_width : (v c : ℕ) → length (link_set v c) ≡ width c
 same_width v zero = refl
 same_width v (suc zero) = refl
 same_width v (suc (suc zero)) = refl
@@ -54,15 +54,15 @@ eight : length (from 0 8) ≡ 8
 unfolding from
 eight = refl
 
-row-length : (v t c : ℕ) → length (rowBytes v t c) ≡ 9 + width c
-unfolding linkBytes
+row-length : (v t c : ℕ) → length (row_bytes v t c) ≡ 9 + width c
+unfolding link_bytes
 row-length v t c =
     omega (
       arith,
-      length-append (map (λ k. bitsFrom (linkSet v c) (8 * k) 8) (from 0 8)) (map (λ l. l.1) (linkSet v c)),
-      length-map (from 0 8) (λ k. bitsFrom (linkSet v c) (8 * k) 8),
+      length-append (map (λ k. bits_from (link_set v c) (8 * k) 8) (from 0 8)) (map (λ l. l.1) (link_set v c)),
+      length-map (from 0 8) (λ k. bits_from (link_set v c) (8 * k) 8),
       eight,
-      length-map (linkSet v c) (λ l. l.1),
+      length-map (link_set v c) (λ l. l.1),
       same_width v c,
     )
 
@@ -83,47 +83,47 @@ module _ (t₀ c₀ t₁ c₁ t₂ c₂ : ℕ) where
   abbrev pub numbered : ℕ → List ℕ
   numbered N = N ∷ t₀ ∷ c₀ ∷ t₁ ∷ c₁ ∷ t₂ ∷ c₂ ∷ []
 
-  one-node : recordOf (numbered 1) ≡ 1 ∷ (rowBytes 0 t₀ c₀ ++ [])
-  unfolding linkBytes encoded encodedRows encodedRow encodedLabel isFull statedRows
+  one-node : record_of (numbered 1) ≡ 1 ∷ (row_bytes 0 t₀ c₀ ++ [])
+  unfolding link_bytes encoded encoded_rows encoded_row encoded_label is_full stated_rows
   one-node = refl
 
-  two-nodes : recordOf (numbered 2) ≡ 2 ∷ (rowBytes 0 t₀ c₀ ++ (rowBytes 1 t₁ c₁ ++ []))
-  unfolding linkBytes encoded encodedRows encodedRow encodedLabel isFull statedRows
+  two-nodes : record_of (numbered 2) ≡ 2 ∷ (row_bytes 0 t₀ c₀ ++ (row_bytes 1 t₁ c₁ ++ []))
+  unfolding link_bytes encoded encoded_rows encoded_row encoded_label is_full stated_rows
   two-nodes = refl
 
-  three-nodes : recordOf (numbered 3) ≡ 3 ∷ (rowBytes 0 t₀ c₀ ++ (rowBytes 1 t₁ c₁ ++ (rowBytes 2 t₂ c₂ ++ [])))
-  unfolding linkBytes encoded encodedRows encodedRow encodedLabel isFull statedRows
+  three-nodes : record_of (numbered 3) ≡ 3 ∷ (row_bytes 0 t₀ c₀ ++ (row_bytes 1 t₁ c₁ ++ (row_bytes 2 t₂ c₂ ++ [])))
+  unfolding link_bytes encoded encoded_rows encoded_row encoded_label is_full stated_rows
   three-nodes = refl
 
-  pub length-one : length (recordOf (numbered 1)) ≡ 10 + width c₀
-  length-one = omega (arith, ap length one-node, length-append (rowBytes 0 t₀ c₀) [], row-length 0 t₀ c₀)
+  pub length-one : length (record_of (numbered 1)) ≡ 10 + width c₀
+  length-one = omega (arith, ap length one-node, length-append (row_bytes 0 t₀ c₀) [], row-length 0 t₀ c₀)
 
-  pub length_two : length (recordOf (numbered 2)) ≡ 10 + width c₀ + 9 + width c₁
+  pub length_two : length (record_of (numbered 2)) ≡ 10 + width c₀ + 9 + width c₁
   length_two =
       omega (
         arith,
         ap length two-nodes,
-        length-append (rowBytes 0 t₀ c₀) (rowBytes 1 t₁ c₁ ++ []),
+        length-append (row_bytes 0 t₀ c₀) (row_bytes 1 t₁ c₁ ++ []),
         row-length 0 t₀ c₀,
-        length-append (rowBytes 1 t₁ c₁) [],
+        length-append (row_bytes 1 t₁ c₁) [],
         row-length 1 t₁ c₁,
       )
 
-  pub length_three : length (recordOf (numbered 3)) ≡ 10 + width c₀ + 9 + width c₁ + 9 + width c₂
+  pub length_three : length (record_of (numbered 3)) ≡ 10 + width c₀ + 9 + width c₁ + 9 + width c₂
   length_three =
       omega (
         arith,
         ap length three-nodes,
-        length-append (rowBytes 0 t₀ c₀) (rowBytes 1 t₁ c₁ ++ (rowBytes 2 t₂ c₂ ++ [])),
+        length-append (row_bytes 0 t₀ c₀) (row_bytes 1 t₁ c₁ ++ (row_bytes 2 t₂ c₂ ++ [])),
         row-length 0 t₀ c₀,
-        length-append (rowBytes 1 t₁ c₁) (rowBytes 2 t₂ c₂ ++ []),
+        length-append (row_bytes 1 t₁ c₁) (row_bytes 2 t₂ c₂ ++ []),
         row-length 1 t₁ c₁,
-        length-append (rowBytes 2 t₂ c₂) [],
+        length-append (row_bytes 2 t₂ c₂) [],
         row-length 2 t₂ c₂,
       )
 
-  pub byte-count : (N : ℕ) → 1 ≤ N → N ≤ 3 → N ≡ get_or (recordOf (numbered N)) 0 0
-  unfolding encoded statedRows
+  pub byte-count : (N : ℕ) → 1 ≤ N → N ≤ 3 → N ≡ get_or (record_of (numbered N)) 0 0
+  unfolding encoded stated_rows
   byte-count zero l h = absurd (omega arith)
   byte-count (suc zero) l h = refl
   byte-count (suc (suc zero)) l h = refl
@@ -131,35 +131,35 @@ module _ (t₀ c₀ t₁ c₁ t₂ c₂ : ℕ) where
   byte-count (suc (suc (suc (suc N)))) l h = absurd (omega arith)
 
   module _ (at : ℕ) where
-    pub byte-first : (N : ℕ) → 1 ≤ N → N ≤ 3 → at ≢ 0 → at < 10 + width c₀ → get_or (recordOf (numbered N)) at 0 ≡ get_or (rowBytes 0 t₀ c₀) (at - 1) 0
+    pub byte-first : (N : ℕ) → 1 ≤ N → N ≤ 3 → at ≢ 0 → at < 10 + width c₀ → get_or (record_of (numbered N)) at 0 ≡ get_or (row_bytes 0 t₀ c₀) (at - 1) 0
     byte-first zero l h p q = absurd (omega arith)
     byte-first (suc zero) l h p q =
-        ap (λ (r : List ℕ). get_or r at 0) one-node ∙ first_part 1 (rowBytes 0 t₀ c₀) [] at (omega arith) (omega (arith, row-length 0 t₀ c₀))
+        ap (λ (r : List ℕ). get_or r at 0) one-node ∙ first_part 1 (row_bytes 0 t₀ c₀) [] at (omega arith) (omega (arith, row-length 0 t₀ c₀))
     byte-first (suc (suc zero)) l h p q =
         ap (λ (r : List ℕ). get_or r at 0) two-nodes
-        ∙ first_part 2 (rowBytes 0 t₀ c₀) (rowBytes 1 t₁ c₁ ++ []) at (omega arith) (omega (arith, row-length 0 t₀ c₀))
+        ∙ first_part 2 (row_bytes 0 t₀ c₀) (row_bytes 1 t₁ c₁ ++ []) at (omega arith) (omega (arith, row-length 0 t₀ c₀))
     byte-first (suc (suc (suc zero))) l h p q =
         ap (λ (r : List ℕ). get_or r at 0) three-nodes
-        ∙ first_part 3 (rowBytes 0 t₀ c₀) (rowBytes 1 t₁ c₁ ++ (rowBytes 2 t₂ c₂ ++ [])) at (omega arith) (omega (arith, row-length 0 t₀ c₀))
+        ∙ first_part 3 (row_bytes 0 t₀ c₀) (row_bytes 1 t₁ c₁ ++ (row_bytes 2 t₂ c₂ ++ [])) at (omega arith) (omega (arith, row-length 0 t₀ c₀))
     byte-first (suc (suc (suc (suc N)))) l h p q = absurd (omega arith)
 
-    pub byte-second : (N : ℕ) → 1 ≤ N → N ≤ 3 → 10 + width c₀ ≤ at → at < 10 + width c₀ + 9 + width c₁ → at < length (recordOf (numbered N)) →
-        get_or (recordOf (numbered N)) at 0 ≡ get_or (rowBytes 1 t₁ c₁) (at - (10 + width c₀)) 0
+    pub byte-second : (N : ℕ) → 1 ≤ N → N ≤ 3 → 10 + width c₀ ≤ at → at < 10 + width c₀ + 9 + width c₁ → at < length (record_of (numbered N)) →
+        get_or (record_of (numbered N)) at 0 ≡ get_or (row_bytes 1 t₁ c₁) (at - (10 + width c₀)) 0
     byte-second zero l h p q r = absurd (omega arith)
     byte-second (suc zero) l h p q r = absurd (omega (arith, length-one, r))
     byte-second (suc (suc zero)) l h p q r =
         ap (λ (r : List ℕ). get_or r at 0) two-nodes
-        ∙ later-part (2 ∷ rowBytes 0 t₀ c₀) (rowBytes 1 t₁ c₁ ++ []) at (10 + width c₀) (omega (arith, row-length 0 t₀ c₀)) p
-        ∙ get_or-append (rowBytes 1 t₁ c₁) [] 0 (at - (10 + width c₀)) (omega (arith, row-length 1 t₁ c₁))
+        ∙ later-part (2 ∷ row_bytes 0 t₀ c₀) (row_bytes 1 t₁ c₁ ++ []) at (10 + width c₀) (omega (arith, row-length 0 t₀ c₀)) p
+        ∙ get_or-append (row_bytes 1 t₁ c₁) [] 0 (at - (10 + width c₀)) (omega (arith, row-length 1 t₁ c₁))
     byte-second (suc (suc (suc zero))) l h p q r =
         ap (λ (r : List ℕ). get_or r at 0) three-nodes
-        ∙ later-part (3 ∷ rowBytes 0 t₀ c₀) (rowBytes 1 t₁ c₁ ++ (rowBytes 2 t₂ c₂ ++ [])) at (10 + width c₀) (omega (arith, row-length 0 t₀ c₀)) p
-        ∙ get_or-append (rowBytes 1 t₁ c₁) (rowBytes 2 t₂ c₂ ++ []) 0 (at - (10 + width c₀)) (omega (arith, row-length 1 t₁ c₁))
+        ∙ later-part (3 ∷ row_bytes 0 t₀ c₀) (row_bytes 1 t₁ c₁ ++ (row_bytes 2 t₂ c₂ ++ [])) at (10 + width c₀) (omega (arith, row-length 0 t₀ c₀)) p
+        ∙ get_or-append (row_bytes 1 t₁ c₁) (row_bytes 2 t₂ c₂ ++ []) 0 (at - (10 + width c₀)) (omega (arith, row-length 1 t₁ c₁))
     byte-second (suc (suc (suc (suc N)))) l h p q r = absurd (omega arith)
 
     -- A byte of the third node's row.
-    pub byte-third : (N : ℕ) → 1 ≤ N → N ≤ 3 → 10 + width c₀ + 9 + width c₁ ≤ at → at < length (recordOf (numbered N)) →
-        (at - (10 + width c₀ + 9 + width c₁) < 9 + width c₂) × (get_or (recordOf (numbered N)) at 0 ≡ get_or (rowBytes 2 t₂ c₂) (at - (10 + width c₀ + 9 + width c₁)) 0)
+    pub byte-third : (N : ℕ) → 1 ≤ N → N ≤ 3 → 10 + width c₀ + 9 + width c₁ ≤ at → at < length (record_of (numbered N)) →
+        (at - (10 + width c₀ + 9 + width c₁) < 9 + width c₂) × (get_or (record_of (numbered N)) at 0 ≡ get_or (row_bytes 2 t₂ c₂) (at - (10 + width c₀ + 9 + width c₁)) 0)
     byte-third zero l h p r = absurd (omega arith)
     byte-third (suc zero) l h p r = absurd (omega (arith, length-one, r))
     byte-third (suc (suc zero)) l h p r = absurd (omega (arith, length_two, r))
@@ -168,20 +168,20 @@ module _ (t₀ c₀ t₁ c₁ t₂ c₂ : ℕ) where
         let e : at - (10 + width c₀) - (9 + width c₁) ≡ at - (10 + width c₀ + 9 + width c₁) = omega arith in (
           q,
           ap (λ (r : List ℕ). get_or r at 0) three-nodes
-              ∙ later-part (3 ∷ rowBytes 0 t₀ c₀) (rowBytes 1 t₁ c₁ ++ (rowBytes 2 t₂ c₂ ++ [])) at (10 + width c₀) (omega (arith, row-length 0 t₀ c₀)) (omega arith)
-              ∙ later-part (rowBytes 1 t₁ c₁) (rowBytes 2 t₂ c₂ ++ []) (at - (10 + width c₀)) (9 + width c₁) (row-length 1 t₁ c₁) (omega arith)
-              ∙ ap (λ (i : ℕ). get_or (rowBytes 2 t₂ c₂ ++ []) i 0) e
-              ∙ get_or-append (rowBytes 2 t₂ c₂) [] 0 (at - (10 + width c₀ + 9 + width c₁)) (omega (arith, row-length 2 t₂ c₂)),
+              ∙ later-part (3 ∷ row_bytes 0 t₀ c₀) (row_bytes 1 t₁ c₁ ++ (row_bytes 2 t₂ c₂ ++ [])) at (10 + width c₀) (omega (arith, row-length 0 t₀ c₀)) (omega arith)
+              ∙ later-part (row_bytes 1 t₁ c₁) (row_bytes 2 t₂ c₂ ++ []) (at - (10 + width c₀)) (9 + width c₁) (row-length 1 t₁ c₁) (omega arith)
+              ∙ ap (λ (i : ℕ). get_or (row_bytes 2 t₂ c₂ ++ []) i 0) e
+              ∙ get_or-append (row_bytes 2 t₂ c₂) [] 0 (at - (10 + width c₀ + 9 + width c₁)) (omega (arith, row-length 2 t₂ c₂)),
         )
     byte-third (suc (suc (suc (suc N)))) l h p r = absurd (omega arith)
 
 -- The lemmas above, with the widths that the code computed.
 module _ (t₀ c₀ t₁ c₁ t₂ c₂ N : ℕ) where
   abbrev bytes_of : List ℕ
-  bytes_of = recordOf (numbered t₀ c₀ t₁ c₁ t₂ c₂ N)
+  bytes_of = record_of (numbered t₀ c₀ t₁ c₁ t₂ c₂ N)
 
   abbrev length_at : ℕ → ℕ
-  length_at m = length (recordOf (numbered t₀ c₀ t₁ c₁ t₂ c₂ m))
+  length_at m = length (record_of (numbered t₀ c₀ t₁ c₁ t₂ c₂ m))
 
   pub long-one : (w₀ : ℕ) → w₀ ≡ width c₀ → N ≡ 1 → 10 + w₀ ≡ length bytes_of
   long-one w₀ e₀ h = omega (arith, e₀, ap length_at h, length-one t₀ c₀ t₁ c₁ t₂ c₂)
@@ -193,32 +193,32 @@ module _ (t₀ c₀ t₁ c₁ t₂ c₂ N : ℕ) where
   long-three w₀ w₁ w₂ e₀ e₁ e₂ h = omega (arith, e₀, e₁, e₂, ap length_at h, length_three t₀ c₀ t₁ c₁ t₂ c₂)
 
   module _ (at : ℕ) (nodes : (1 ≤ N) × (N ≤ 3)) where
-    pub at_first : (w₀ : ℕ) → w₀ ≡ width c₀ → at ≢ 0 → at < 10 + w₀ → get_or (rowBytes 0 t₀ c₀) (at - 1) 0 ≡ get_or bytes_of at 0
+    pub at_first : (w₀ : ℕ) → w₀ ≡ width c₀ → at ≢ 0 → at < 10 + w₀ → get_or (row_bytes 0 t₀ c₀) (at - 1) 0 ≡ get_or bytes_of at 0
     at_first w₀ e₀ p q = sym (byte-first t₀ c₀ t₁ c₁ t₂ c₂ at N nodes.0 nodes.1 p (omega (arith, e₀)))
 
     pub at_second : (w₀ w₁ : ℕ) → w₀ ≡ width c₀ → w₁ ≡ width c₁ → 10 + w₀ ≤ at → at < 10 + w₀ + 9 + w₁ → at < length bytes_of →
-        get_or (rowBytes 1 t₁ c₁) (at - (10 + w₀)) 0 ≡ get_or bytes_of at 0
+        get_or (row_bytes 1 t₁ c₁) (at - (10 + w₀)) 0 ≡ get_or bytes_of at 0
     at_second w₀ w₁ e₀ e₁ p q r =
-        ap (λ (w : ℕ). get_or (rowBytes 1 t₁ c₁) (at - (10 + w)) 0) e₀
+        ap (λ (w : ℕ). get_or (row_bytes 1 t₁ c₁) (at - (10 + w)) 0) e₀
         ∙ sym (byte-second t₀ c₀ t₁ c₁ t₂ c₂ at N nodes.0 nodes.1 (omega (arith, e₀)) (omega (arith, e₀, e₁)) r)
 
     module _ (w₀ w₁ : ℕ) (e₀ : w₀ ≡ width c₀) (e₁ : w₁ ≡ width c₁) (p : 10 + w₀ + 9 + w₁ ≤ at) (r : at < length bytes_of) where
-      third : (at - (10 + width c₀ + 9 + width c₁) < 9 + width c₂) × (get_or bytes_of at 0 ≡ get_or (rowBytes 2 t₂ c₂) (at - (10 + width c₀ + 9 + width c₁)) 0)
+      third : (at - (10 + width c₀ + 9 + width c₁) < 9 + width c₂) × (get_or bytes_of at 0 ≡ get_or (row_bytes 2 t₂ c₂) (at - (10 + width c₀ + 9 + width c₁)) 0)
       third = byte-third t₀ c₀ t₁ c₁ t₂ c₂ at N nodes.0 nodes.1 (omega (arith, e₀, e₁)) r
 
       pub in-third : at - (10 + w₀ + 9 + w₁) < 9 + width c₂
       in-third = omega (arith, e₀, e₁, third.0)
 
-      pub at-third : get_or (rowBytes 2 t₂ c₂) (at - (10 + w₀ + 9 + w₁)) 0 ≡ get_or bytes_of at 0
+      pub at-third : get_or (row_bytes 2 t₂ c₂) (at - (10 + w₀ + 9 + w₁)) 0 ≡ get_or bytes_of at 0
       at-third =
           let e : at - (10 + w₀ + 9 + w₁) ≡ at - (10 + width c₀ + 9 + width c₁) = omega (arith, e₀, e₁) in
-          ap (λ (i : ℕ). get_or (rowBytes 2 t₂ c₂) i 0) e ∙ sym third.1
+          ap (λ (i : ℕ). get_or (row_bytes 2 t₂ c₂) i 0) e ∙ sym third.1
 
 -- The bytes of a node.
 
 module _ (v t at : ℕ) where
-  pub row-four : (c : ℕ) → 4 ≤ c → get_or (t ∷ 3 ∷ 0 ∷ 0 ∷ 0 ∷ 0 ∷ 0 ∷ 0 ∷ 0 ∷ 1 ∷ 2 ∷ []) at 0 ≡ get_or (rowBytes v t c) at 0
-  unfolding linkBytes bitsFrom target from
+  pub row-four : (c : ℕ) → 4 ≤ c → get_or (t ∷ 3 ∷ 0 ∷ 0 ∷ 0 ∷ 0 ∷ 0 ∷ 0 ∷ 0 ∷ 1 ∷ 2 ∷ []) at 0 ≡ get_or (row_bytes v t c) at 0
+  unfolding link_bytes bits_from target from
   row-four zero h = absurd (omega arith)
   row-four (suc zero) h = absurd (omega arith)
   row-four (suc (suc zero)) h = absurd (omega arith)
@@ -226,8 +226,8 @@ module _ (v t at : ℕ) where
   row-four (suc (suc (suc (suc c)))) h = refl
 
   pub row_plain : (c : ℕ) → c < 4 → at < 9 + width c →
-      get_or (t ∷ c ∷ 0 ∷ 0 ∷ 0 ∷ 0 ∷ 0 ∷ 0 ∷ 0 ∷ heir v ∷ heir v ∷ []) at 0 ≡ get_or (rowBytes v t c) at 0
-  unfolding linkBytes bitsFrom target from
+      get_or (t ∷ c ∷ 0 ∷ 0 ∷ 0 ∷ 0 ∷ 0 ∷ 0 ∷ 0 ∷ heir v ∷ heir v ∷ []) at 0 ≡ get_or (row_bytes v t c) at 0
+  unfolding link_bytes bits_from target from
   row_plain zero h k = sym (get_or-take 9 (t ∷ 0 ∷ 0 ∷ 0 ∷ 0 ∷ 0 ∷ 0 ∷ 0 ∷ 0 ∷ heir v ∷ heir v ∷ []) at 0 k)
   row_plain (suc zero) h k = sym (get_or-take 10 (t ∷ 1 ∷ 0 ∷ 0 ∷ 0 ∷ 0 ∷ 0 ∷ 0 ∷ 0 ∷ heir v ∷ heir v ∷ []) at 0 k)
   row_plain (suc (suc zero)) h k = sym (get_or-take 10 (t ∷ 2 ∷ 0 ∷ 0 ∷ 0 ∷ 0 ∷ 0 ∷ 0 ∷ 0 ∷ heir v ∷ heir v ∷ []) at 0 k)
@@ -257,62 +257,62 @@ tested-small (x ∷ xs) e =
     let (a, b) = both_true (ltb x 256) (all_of xs λ b. ltb b 256) e in
     small-cons x xs (ltb-true x 256 a) (tested-small xs b)
 
-unfoldable linksSmall : ℕ → ℕ → Bool
-linksSmall v c = all_of (linkBytes v c) λ b. ltb b 256
+unfoldable links_small : ℕ → ℕ → Bool
+links_small v c = all_of (link_bytes v c) λ b. ltb b 256
 
-small-zero : (c : ℕ) → linksSmall 0 c ≡ true
-unfolding linksSmall linkBytes bitsFrom target from all_of
+small-zero : (c : ℕ) → links_small 0 c ≡ true
+unfolding links_small link_bytes bits_from target from all_of
 small-zero zero = refl
 small-zero (suc zero) = refl
 small-zero (suc (suc zero)) = refl
 small-zero (suc (suc (suc zero))) = refl
 small-zero (suc (suc (suc (suc c)))) = refl
 
-small-row-zero : (t c : ℕ) → t < 256 → Small (rowBytes 0 t c)
-unfolding linksSmall
-small-row-zero t c h = small-cons t (linkBytes 0 c) h (tested-small (linkBytes 0 c) (small-zero c))
+small-row-zero : (t c : ℕ) → t < 256 → Small (row_bytes 0 t c)
+unfolding links_small
+small-row-zero t c h = small-cons t (link_bytes 0 c) h (tested-small (link_bytes 0 c) (small-zero c))
 
-small_one : (c : ℕ) → linksSmall 1 c ≡ true
-unfolding linksSmall linkBytes bitsFrom target from all_of
+small_one : (c : ℕ) → links_small 1 c ≡ true
+unfolding links_small link_bytes bits_from target from all_of
 small_one zero = refl
 small_one (suc zero) = refl
 small_one (suc (suc zero)) = refl
 small_one (suc (suc (suc zero))) = refl
 small_one (suc (suc (suc (suc c)))) = refl
 
-small-row-one : (t c : ℕ) → t < 256 → Small (rowBytes 1 t c)
-unfolding linksSmall
-small-row-one t c h = small-cons t (linkBytes 1 c) h (tested-small (linkBytes 1 c) (small_one c))
+small-row-one : (t c : ℕ) → t < 256 → Small (row_bytes 1 t c)
+unfolding links_small
+small-row-one t c h = small-cons t (link_bytes 1 c) h (tested-small (link_bytes 1 c) (small_one c))
 
-small-two : (c : ℕ) → linksSmall 2 c ≡ true
-unfolding linksSmall linkBytes bitsFrom target from all_of
+small-two : (c : ℕ) → links_small 2 c ≡ true
+unfolding links_small link_bytes bits_from target from all_of
 small-two zero = refl
 small-two (suc zero) = refl
 small-two (suc (suc zero)) = refl
 small-two (suc (suc (suc zero))) = refl
 small-two (suc (suc (suc (suc c)))) = refl
 
-small-row-two : (t c : ℕ) → t < 256 → Small (rowBytes 2 t c)
-unfolding linksSmall
-small-row-two t c h = small-cons t (linkBytes 2 c) h (tested-small (linkBytes 2 c) (small-two c))
+small-row-two : (t c : ℕ) → t < 256 → Small (row_bytes 2 t c)
+unfolding links_small
+small-row-two t c h = small-cons t (link_bytes 2 c) h (tested-small (link_bytes 2 c) (small-two c))
 
 module _ (t₀ c₀ t₁ c₁ t₂ c₂ : ℕ) (h₀ : t₀ < 256) (h₁ : t₁ < 256) (h₂ : t₂ < 256) where
-  record-small : (N : ℕ) → 1 ≤ N → N ≤ 3 → Small (recordOf (numbered t₀ c₀ t₁ c₁ t₂ c₂ N))
+  record-small : (N : ℕ) → 1 ≤ N → N ≤ 3 → Small (record_of (numbered t₀ c₀ t₁ c₁ t₂ c₂ N))
   record-small zero l h = absurd (omega arith)
   record-small (suc zero) l h =
       subst Small (sym (one-node t₀ c₀ t₁ c₁ t₂ c₂))
-      (small-cons 1 (rowBytes 0 t₀ c₀ ++ []) (omega arith) (small-append (rowBytes 0 t₀ c₀) [] (small-row-zero t₀ c₀ h₀) small-none))
+      (small-cons 1 (row_bytes 0 t₀ c₀ ++ []) (omega arith) (small-append (row_bytes 0 t₀ c₀) [] (small-row-zero t₀ c₀ h₀) small-none))
   record-small (suc (suc zero)) l h =
       subst Small (sym (two-nodes t₀ c₀ t₁ c₁ t₂ c₂))
-      (small-cons 2 (rowBytes 0 t₀ c₀ ++ (rowBytes 1 t₁ c₁ ++ [])) (omega arith)
-      (small-append (rowBytes 0 t₀ c₀) (rowBytes 1 t₁ c₁ ++ []) (small-row-zero t₀ c₀ h₀)
-      (small-append (rowBytes 1 t₁ c₁) [] (small-row-one t₁ c₁ h₁) small-none)))
+      (small-cons 2 (row_bytes 0 t₀ c₀ ++ (row_bytes 1 t₁ c₁ ++ [])) (omega arith)
+      (small-append (row_bytes 0 t₀ c₀) (row_bytes 1 t₁ c₁ ++ []) (small-row-zero t₀ c₀ h₀)
+      (small-append (row_bytes 1 t₁ c₁) [] (small-row-one t₁ c₁ h₁) small-none)))
   record-small (suc (suc (suc zero))) l h =
       subst Small (sym (three-nodes t₀ c₀ t₁ c₁ t₂ c₂))
-      (small-cons 3 (rowBytes 0 t₀ c₀ ++ (rowBytes 1 t₁ c₁ ++ (rowBytes 2 t₂ c₂ ++ []))) (omega arith)
-      (small-append (rowBytes 0 t₀ c₀) (rowBytes 1 t₁ c₁ ++ (rowBytes 2 t₂ c₂ ++ [])) (small-row-zero t₀ c₀ h₀)
-      (small-append (rowBytes 1 t₁ c₁) (rowBytes 2 t₂ c₂ ++ []) (small-row-one t₁ c₁ h₁)
-      (small-append (rowBytes 2 t₂ c₂) [] (small-row-two t₂ c₂ h₂) small-none))))
+      (small-cons 3 (row_bytes 0 t₀ c₀ ++ (row_bytes 1 t₁ c₁ ++ (row_bytes 2 t₂ c₂ ++ []))) (omega arith)
+      (small-append (row_bytes 0 t₀ c₀) (row_bytes 1 t₁ c₁ ++ (row_bytes 2 t₂ c₂ ++ [])) (small-row-zero t₀ c₀ h₀)
+      (small-append (row_bytes 1 t₁ c₁) (row_bytes 2 t₂ c₂ ++ []) (small-row-one t₁ c₁ h₁)
+      (small-append (row_bytes 2 t₂ c₂) [] (small-row-two t₂ c₂ h₂) small-none))))
   record-small (suc (suc (suc (suc N)))) l h = absurd (omega arith)
 
 type-small : (n t : ℕ) (b : Bool) → n ≤ 64 → t ≤ (cond {A = ℕ × ℕ} b (1, n - 1) (0, 0)).1 → t < 256
@@ -324,7 +324,7 @@ pub run-count : (n F N t₀ c₀ t₁ c₁ t₂ c₂ : ℕ) → Run (span n F) [
 unfolding span
 run-count n F N t₀ c₀ t₁ c₁ t₂ c₂ r = (r.0, r.1)
 
-pub run_small : (n F N t₀ c₀ t₁ c₁ t₂ c₂ : ℕ) → n ≤ 64 → Run (span n F) [] (numbered t₀ c₀ t₁ c₁ t₂ c₂ N) → Small (recordOf (numbered t₀ c₀ t₁ c₁ t₂ c₂ N))
+pub run_small : (n F N t₀ c₀ t₁ c₁ t₂ c₂ : ℕ) → n ≤ 64 → Run (span n F) [] (numbered t₀ c₀ t₁ c₁ t₂ c₂ N) → Small (record_of (numbered t₀ c₀ t₁ c₁ t₂ c₂ N))
 unfolding span
 run_small n F N t₀ c₀ t₁ c₁ t₂ c₂ h (a, b, (lt₀, ht₀, (lc₀, hc₀, (lt₁, ht₁, (lc₁, hc₁, (lt₂, ht₂, r)))))) =
     record-small t₀ c₀ t₁ c₁ t₂ c₂ (omega arith) (type-small n t₁ (leb 2 N) h ht₁) (type-small n t₂ (eqb N 3) h ht₂) N a b

@@ -13,8 +13,8 @@ use borrow.Author.Tests.{ltb-true, ltb-false}
 use lib.Dec.{ltb}
 use lib.ListN.{length}
 use Rattle.graphs.specs.Rows.{from}
-use Rattle.graphs.proofs.Lists.{from_member, from-range, flatMap-member, flatMap-source}
-use Rattle.listed.specs.Listing.{precedes, Run, runs, raised, leastRun}
+use Rattle.graphs.proofs.Lists.{from_member, from-range, flat_map-member, flat_map-source}
+use Rattle.listed.specs.Listing.{precedes, Run, runs, raised, least_run}
 use Rattle.listed.proofs.Order.{Before, Ascends, false-true, less-before, same-before, before-parts, ascends-append, ascends-map, map_source, map-member}
 
 module _ (bounds : List ℕ → ℕ × ℕ) where
@@ -22,7 +22,7 @@ module _ (bounds : List ℕ → ℕ × ℕ) where
   unfolding runs
   member-run p [] r = Memᴰ.head refl
   member-run p (x ∷ xs) (low, high, r) =
-      flatMap-member (λ y. map (λ ys. y ∷ ys) (runs bounds (y ∷ p) (length xs)))
+      flat_map-member (λ y. map (λ ys. y ∷ ys) (runs bounds (y ∷ p) (length xs)))
       (from_member (bounds p).0 (suc (bounds p).1 - (bounds p).0) x low (omega arith))
       (map-member (λ ys. x ∷ ys) (member-run (x ∷ p) xs r))
 
@@ -32,7 +32,7 @@ module _ (bounds : List ℕ → ℕ × ℕ) where
   run-member p zero (x ∷ xs) (Memᴰ.head e) = let z : ◌≡◌ {A = ℕ} 0 1 = cc in absurd (omega arith)
   run-member p zero (x ∷ xs) (Memᴰ.tail m) = absurd (Memᴰ.not-nil m)
   run-member p (suc k) xs m =
-      let (x, i, j) = flatMap-source (λ y. map (λ ys. y ∷ ys) (runs bounds (y ∷ p) k)) (from (bounds p).0 (suc (bounds p).1 - (bounds p).0)) m in
+      let (x, i, j) = flat_map-source (λ y. map (λ ys. y ∷ ys) (runs bounds (y ∷ p) k)) (from (bounds p).0 (suc (bounds p).1 - (bounds p).0)) m in
       let (ys, n, e) = map_source (λ ys. x ∷ ys) (runs bounds (x ∷ p) k) j in
       let (l, r) = run-member (x ∷ p) k ys n in
       let (a, b) = from-range (bounds p).0 (suc (bounds p).1 - (bounds p).0) x i in
@@ -50,7 +50,7 @@ module _ (bounds : List ℕ → ℕ × ℕ) where
       (spread-ascends make h (suc a) m)
       (λ u v i j.
       let (us, _, e) = map_source (λ xs. a ∷ xs) (make a) i in
-      let (z, n, k) = flatMap-source (λ x. map (λ xs. x ∷ xs) (make x)) (from (suc a) m) j in
+      let (z, n, k) = flat_map-source (λ x. map (λ xs. x ∷ xs) (make x)) (from (suc a) m) j in
       let (vs, _, q) = map_source (λ xs. z ∷ xs) (make z) k in
       let range = from-range (suc a) m z n in
       let b : Before (a ∷ us) (z ∷ vs) = less-before a z us vs (omega arith) in
@@ -64,21 +64,21 @@ module _ (bounds : List ℕ → ℕ × ℕ) where
 
   -- Raising.
 
-  pub length-least : (k : ℕ) (p : List ℕ) → length (leastRun bounds k p) ≡ k
-  unfolding leastRun
+  pub length-least : (k : ℕ) (p : List ℕ) → length (least_run bounds k p) ≡ k
+  unfolding least_run
   length-least zero p = refl
   length-least (suc k) p = ap suc (length-least k ((bounds p).0 ∷ p))
 
   -- No list of k numbers within the bounds comes before the least one.
-  pub least-run : (k : ℕ) (p ys : List ℕ) → Run bounds p ys → length ys ≡ k → Before ys (leastRun bounds k p) → ⊥
-  unfolding leastRun precedes
+  pub least-run : (k : ℕ) (p ys : List ℕ) → Run bounds p ys → length ys ≡ k → Before ys (least_run bounds k p) → ⊥
+  unfolding least_run precedes
   least-run zero p [] r e h = false-true h
   least-run zero p (y ∷ ys) r e h = absurd (omega arith)
   least-run (suc k) p [] r e h = absurd (omega arith)
   least-run (suc k) p (y ∷ ys) (low, high, r) e h =
       ⊎_elim (λ (l : y < (bounds p).0). absurd (omega arith))
       (λ q. least-run k ((bounds p).0 ∷ p) ys (subst (λ (w : ℕ). Run bounds (w ∷ p) ys) q.0 r) (omega (arith, e)) q.1)
-      (before-parts y (bounds p).0 ys (leastRun bounds k ((bounds p).0 ∷ p)) h)
+      (before-parts y (bounds p).0 ys (least_run bounds k ((bounds p).0 ∷ p)) h)
 
   -- zs comes after xs, is within the bounds, and no list is between them.
   pub record Next (p xs zs : List ℕ) : Type 0 where
@@ -93,8 +93,8 @@ module _ (bounds : List ℕ → ℕ × ℕ) where
   Raises p xs (some zs) = Next p xs zs
 
   module _ (fits : (p : List ℕ) → (bounds p).0 ≤ (bounds p).1) where
-    pub run-least : (k : ℕ) (p : List ℕ) → Run bounds p (leastRun bounds k p)
-    unfolding leastRun
+    pub run-least : (k : ℕ) (p : List ℕ) → Run bounds p (least_run bounds k p)
+    unfolding least_run
     run-least zero p = tt
     run-least (suc k) p = let h = fits p in (omega arith, omega arith, run-least k ((bounds p).0 ∷ p))
 
@@ -108,7 +108,7 @@ module _ (bounds : List ℕ → ℕ × ℕ) where
     raises p (x ∷ xs) (low, high, r) = later (raised bounds (x ∷ p) xs) (raises (x ∷ p) xs r)
       where
         later : (o : Option (List ℕ)) → Raises (x ∷ p) xs o →
-            Raises p (x ∷ xs) (or_else (Option.map (λ zs. x ∷ zs) o) (cond (ltb x (bounds p).1) (some (suc x ∷ leastRun bounds (length xs) (suc x ∷ p))) none))
+            Raises p (x ∷ xs) (or_else (Option.map (λ zs. x ∷ zs) o) (cond (ltb x (bounds p).1) (some (suc x ∷ least_run bounds (length xs) (suc x ∷ p))) none))
         later (some zs) n =
             record {
               long = ap suc n.long;
@@ -126,22 +126,22 @@ module _ (bounds : List ℕ → ℕ × ℕ) where
                 (before-parts x y xs ys h)
         later none n = here (ltb x (bounds p).1) refl
           where
-            here : (b : Bool) → ltb x (bounds p).1 ≡ b → Raises p (x ∷ xs) (cond b (some (suc x ∷ leastRun bounds (length xs) (suc x ∷ p))) none)
+            here : (b : Bool) → ltb x (bounds p).1 ≡ b → Raises p (x ∷ xs) (cond b (some (suc x ∷ least_run bounds (length xs) (suc x ∷ p))) none)
             here true t =
                 let l = ltb-true x (bounds p).1 t in
                 record {
                   long = ap suc (length-least (length xs) (suc x ∷ p));
                   run = (omega arith, omega arith, run-least (length xs) (suc x ∷ p));
-                  above = less-before x (suc x) xs (leastRun bounds (length xs) (suc x ∷ p)) (omega arith);
+                  above = less-before x (suc x) xs (least_run bounds (length xs) (suc x ∷ p)) (omega arith);
                   least = λ ys s e h k. up ys s e h k;
                 }
               where
-                up : (ys : List ℕ) → Run bounds p ys → length ys ≡ suc (length xs) → Before (x ∷ xs) ys → Before ys (suc x ∷ leastRun bounds (length xs) (suc x ∷ p)) → ⊥
+                up : (ys : List ℕ) → Run bounds p ys → length ys ≡ suc (length xs) → Before (x ∷ xs) ys → Before ys (suc x ∷ least_run bounds (length xs) (suc x ∷ p)) → ⊥
                 up [] s e h k = omega arith
                 up (y ∷ ys) (a, b, s) e h k =
                     ⊎_elim (λ (m : x < y). ⊎_elim (λ (i : y < suc x). omega arith)
                     (λ q. least-run (length xs) (suc x ∷ p) ys (subst (λ (v : ℕ). Run bounds (v ∷ p) ys) q.0 s) (omega (arith, e)) q.1)
-                    (before-parts y (suc x) ys (leastRun bounds (length xs) (suc x ∷ p)) k))
+                    (before-parts y (suc x) ys (least_run bounds (length xs) (suc x ∷ p)) k))
                     (λ q. n ys (subst (λ (v : ℕ). Run bounds (v ∷ p) ys) (sym q.0) s) (omega (arith, e)) q.1) (before-parts x y xs ys h)
             here false t = λ ys s e h. last ys s e h
               where

@@ -8,11 +8,11 @@ use Prim.Native.Nat.{ℕ, zero, suc}
 use lib.Dec.{eqb, leb, ltb}
 use lib.ListN.{length, get_or, take}
 use Rattle.graphs.specs.Graph.{Graph}
-use Rattle.graphs.specs.Rows.{from, target, linksOf}
-use Rattle.graphs.specs.Number.{Canonical, manyNodes, manyLinks, written, canonical, visit, each, member, index_of, outDegree, linkCount, row_of}
+use Rattle.graphs.specs.Rows.{from, target, links_of}
+use Rattle.graphs.specs.Number.{Canonical, many_nodes, many_links, written, canonical, visit, each, member, index_of, out_degree, link_count, row_of}
 use Rattle.graphs.specs.Order.{all_of}
 use Rattle.graphs.specs.Unify.{any_of, deep, holds}
-use Rattle.listed.specs.Listing.{linkSet, span, runs}
+use Rattle.listed.specs.Listing.{link_set, span, runs}
 
 -- the links of each node
 abbrev pub Links : Type 0
@@ -38,26 +38,26 @@ bare ks = record { root = 0; label = λ v. v; link = link_in ks }
 unfoldable pub loops : Links → Bool
 loops ks = any_of (from 0 (length ks)) λ v. deep (link_in ks) (length ks) v
 
-unfoldable pub sameLinks : List (ℕ × ℕ) → List (ℕ × ℕ) → Bool
-sameLinks [] [] = true
-sameLinks [] (b ∷ bs) = false
-sameLinks (a ∷ xs) [] = false
-sameLinks (a ∷ xs) (b ∷ bs) = eqb a.0 b.0 && (eqb a.1 b.1 && sameLinks xs bs)
+unfoldable pub same_links : List (ℕ × ℕ) → List (ℕ × ℕ) → Bool
+same_links [] [] = true
+same_links [] (b ∷ bs) = false
+same_links (a ∷ xs) [] = false
+same_links (a ∷ xs) (b ∷ bs) = eqb a.0 b.0 && (eqb a.1 b.1 && same_links xs bs)
 
-unfoldable pub sameAll : Links → Links → Bool
-sameAll [] [] = true
-sameAll [] (b ∷ bs) = false
-sameAll (a ∷ xs) [] = false
-sameAll (a ∷ xs) (b ∷ bs) = sameLinks a b && sameAll xs bs
+unfoldable pub same_all : Links → Links → Bool
+same_all [] [] = true
+same_all [] (b ∷ bs) = false
+same_all (a ∷ xs) [] = false
+same_all (a ∷ xs) (b ∷ bs) = same_links a b && same_all xs bs
 
 -- A written form has these links.
-abbrev pub hasLinks : Links → Canonical ℕ → Bool
-hasLinks ks manyNodes = false
-hasLinks ks manyLinks = false
-hasLinks ks (written rows) = sameAll (map (λ r. r.1) rows) ks
+abbrev pub has_links : Links → Canonical ℕ → Bool
+has_links ks many_nodes = false
+has_links ks many_links = false
+has_links ks (written rows) = same_all (map (λ r. r.1) rows) ks
 
 unfoldable pub own : Links → Bool
-own ks = hasLinks ks (canonical eqb (bare ks))
+own ks = has_links ks (canonical eqb (bare ks))
 
 -- the number of a node's links
 unfoldable pub code_of : List (ℕ × ℕ) → ℕ
@@ -72,14 +72,14 @@ within s x = leb s.0 x && leb x s.1
 -- The links are those of some numbers, and these are within their bounds. The types play no part.
 unfoldable pub shaped : ℕ → Links → Bool
 shaped F [] = false
-shaped F (a ∷ []) = within (span 2 F (1 ∷ 1 ∷ [])) (code_of a) && sameLinks a (linkSet 0 (code_of a))
+shaped F (a ∷ []) = within (span 2 F (1 ∷ 1 ∷ [])) (code_of a) && same_links a (link_set 0 (code_of a))
 shaped F (a ∷ b ∷ []) =
-    within (span 2 F (1 ∷ 2 ∷ [])) (code_of a) && (sameLinks a (linkSet 0 (code_of a)) &&
-    (within (span 2 F (1 ∷ code_of a ∷ 1 ∷ 2 ∷ [])) (code_of b) && sameLinks b (linkSet 1 (code_of b))))
+    within (span 2 F (1 ∷ 2 ∷ [])) (code_of a) && (same_links a (link_set 0 (code_of a)) &&
+    (within (span 2 F (1 ∷ code_of a ∷ 1 ∷ 2 ∷ [])) (code_of b) && same_links b (link_set 1 (code_of b))))
 shaped F (a ∷ b ∷ c ∷ []) =
-    within (span 2 F (1 ∷ 3 ∷ [])) (code_of a) && (sameLinks a (linkSet 0 (code_of a)) &&
-    (within (span 2 F (1 ∷ code_of a ∷ 1 ∷ 3 ∷ [])) (code_of b) && (sameLinks b (linkSet 1 (code_of b)) &&
-    (within (span 2 F (1 ∷ code_of b ∷ 1 ∷ code_of a ∷ 1 ∷ 3 ∷ [])) (code_of c) && sameLinks c (linkSet 2 (code_of c))))))
+    within (span 2 F (1 ∷ 3 ∷ [])) (code_of a) && (same_links a (link_set 0 (code_of a)) &&
+    (within (span 2 F (1 ∷ code_of a ∷ 1 ∷ 3 ∷ [])) (code_of b) && (same_links b (link_set 1 (code_of b)) &&
+    (within (span 2 F (1 ∷ code_of b ∷ 1 ∷ code_of a ∷ 1 ∷ 3 ∷ [])) (code_of c) && same_links c (link_set 2 (code_of c))))))
 shaped F (a ∷ b ∷ c ∷ d ∷ ks) = false
 
 -- Of all choices, those that have no loop and are their own written form have such a shape.
@@ -99,10 +99,10 @@ unfoldable pub ascends : List (ℕ × ℕ) → Bool
 ascends [] = true
 ascends (l ∷ ls) = all_of ls (λ m. ltb l.0 m.0) && ascends ls
 
-abbrev pub inPlace : Links → Canonical ℕ → Bool
-inPlace ks manyNodes = false
-inPlace ks manyLinks = false
-inPlace ks (written rows) = sameAll (map (λ r. r.1) rows) ks && same_numbers (map (λ r. r.0) rows) (from 0 (length ks))
+abbrev pub in_place : Links → Canonical ℕ → Bool
+in_place ks many_nodes = false
+in_place ks many_links = false
+in_place ks (written rows) = same_all (map (λ r. r.1) rows) ks && same_numbers (map (λ r. r.0) rows) (from 0 (length ks))
 
 unfoldable pub proper : ℕ → ℕ → List (ℕ × ℕ) → Bool
 proper F N ls = ascends ls && (leb (length ls) 2 && all_of ls λ l. ltb l.0 F && ltb l.1 N)
@@ -110,43 +110,43 @@ proper F N ls = ascends ls && (leb (length ls) 2 && all_of ls λ l. ltb l.0 F &&
 unfoldable pub good : ℕ → Links → Bool
 good F ks =
     all_of ks (proper F (length ks)) && (not (loops ks) && (holds (λ seen. eqb (length seen) (length ks)) (visit eqb (link_in ks) 255 0 []) &&
-    inPlace ks (canonical eqb (bare ks))))
+    in_place ks (canonical eqb (bare ks))))
 
 -- the links that numbers state
-unfoldable pub statedLinks : List ℕ → Links
-statedLinks d = take (get_or d 0 0) (linkSet 0 (get_or d 2 0) ∷ linkSet 1 (get_or d 4 0) ∷ linkSet 2 (get_or d 6 0) ∷ [])
+unfoldable pub stated_links : List ℕ → Links
+stated_links d = take (get_or d 0 0) (link_set 0 (get_or d 2 0) ∷ link_set 1 (get_or d 4 0) ∷ link_set 2 (get_or d 6 0) ∷ [])
 
 unfoldable pub stated : ℕ → Bool
-stated F = all_of (runs (span 2 F) [] 7) λ d. good F (statedLinks d)
+stated F = all_of (runs (span 2 F) [] 7) λ d. good F (stated_links d)
 
 pub one-one : test 1 1 ≡ true
-unfolding test tuples chosen loops own shaped within code_of sameAll sameLinks all_of from flat_map any_of deep target canonical visit each member index_of linksOf outDegree linkCount row_of span bind
+unfolding test tuples chosen loops own shaped within code_of same_all same_links all_of from flat_map any_of deep target canonical visit each member index_of links_of out_degree link_count row_of span bind
 one-one = refl
 
 pub one-two : test 1 2 ≡ true
-unfolding test tuples chosen loops own shaped within code_of sameAll sameLinks all_of from flat_map any_of deep target canonical visit each member index_of linksOf outDegree linkCount row_of span bind
+unfolding test tuples chosen loops own shaped within code_of same_all same_links all_of from flat_map any_of deep target canonical visit each member index_of links_of out_degree link_count row_of span bind
 one-two = refl
 
 pub one-three : test 1 3 ≡ true
-unfolding test tuples chosen loops own shaped within code_of sameAll sameLinks all_of from flat_map any_of deep target canonical visit each member index_of linksOf outDegree linkCount row_of span bind
+unfolding test tuples chosen loops own shaped within code_of same_all same_links all_of from flat_map any_of deep target canonical visit each member index_of links_of out_degree link_count row_of span bind
 one-three = refl
 
 pub two-one : test 2 1 ≡ true
-unfolding test tuples chosen loops own shaped within code_of sameAll sameLinks all_of from flat_map any_of deep target canonical visit each member index_of linksOf outDegree linkCount row_of span bind
+unfolding test tuples chosen loops own shaped within code_of same_all same_links all_of from flat_map any_of deep target canonical visit each member index_of links_of out_degree link_count row_of span bind
 two-one = refl
 
 pub two-two : test 2 2 ≡ true
-unfolding test tuples chosen loops own shaped within code_of sameAll sameLinks all_of from flat_map any_of deep target canonical visit each member index_of linksOf outDegree linkCount row_of span bind
+unfolding test tuples chosen loops own shaped within code_of same_all same_links all_of from flat_map any_of deep target canonical visit each member index_of links_of out_degree link_count row_of span bind
 two-two = refl
 
 pub two-three : test 2 3 ≡ true
-unfolding test tuples chosen loops own shaped within code_of sameAll sameLinks all_of from flat_map any_of deep target canonical visit each member index_of linksOf outDegree linkCount row_of span bind
+unfolding test tuples chosen loops own shaped within code_of same_all same_links all_of from flat_map any_of deep target canonical visit each member index_of links_of out_degree link_count row_of span bind
 two-three = refl
 
 pub stated-one : stated 1 ≡ true
-unfolding stated runs statedLinks good proper ascends same_numbers loops sameAll sameLinks all_of from flat_map any_of deep target canonical visit each member index_of linksOf outDegree linkCount row_of span bind
+unfolding stated runs stated_links good proper ascends same_numbers loops same_all same_links all_of from flat_map any_of deep target canonical visit each member index_of links_of out_degree link_count row_of span bind
 stated-one = refl
 
 pub stated-two : stated 2 ≡ true
-unfolding stated runs statedLinks good proper ascends same_numbers loops sameAll sameLinks all_of from flat_map any_of deep target canonical visit each member index_of linksOf outDegree linkCount row_of span bind
+unfolding stated runs stated_links good proper ascends same_numbers loops same_all same_links all_of from flat_map any_of deep target canonical visit each member index_of links_of out_degree link_count row_of span bind
 stated-two = refl

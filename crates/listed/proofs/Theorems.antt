@@ -11,7 +11,7 @@ use native.Mathlib.Omega.{arith}
 use lib.Dec.{eqb, leb}
 use lib.ListN.{length}
 use Rattle.encoder.specs.Encode.{encoded}
-use Rattle.listed.specs.Listing.{precedes, Listed, LeastAbove, span, runs, raised, recordOf, listing, firstAfter, following, calls, Run}
+use Rattle.listed.specs.Listing.{precedes, Listed, LeastAbove, span, runs, raised, record_of, listing, first_after, following, calls, Run}
 use Rattle.listed.proofs.Order.{Before, Ascends, Least, before-irrefl, before-trans, before-cases, ascends-map, map_source, map-member, first-least, none_above, least_first, above-none}
 use Rattle.listed.proofs.Runs.{Raises, raises, member-run, run-member, runs-ascend}
 use Rattle.listed.proofs.Stated.{Counts, listed-told, run-listed}
@@ -58,30 +58,30 @@ nth-once (y ∷ L) a (suc j) zero x e q =
     absurd (before-irrefl x (subst (λ (w : List ℕ). Before w x) same (a.0 x (nth-member L j x e))))
 nth-once (y ∷ L) a (suc j) (suc k) x e q = ap suc (nth-once L a.1 j k x e q)
 
-skip : (L : List (List ℕ)) (x y : List ℕ) → (Before x y → ⊥) → firstAfter x (y ∷ L) ≡ firstAfter x L
-unfolding firstAfter
+skip : (L : List (List ℕ)) (x y : List ℕ) → (Before x y → ⊥) → first_after x (y ∷ L) ≡ first_after x L
+unfolding first_after
 skip L x y h = go (precedes x y) refl
   where
-    go : (b : Bool) → precedes x y ≡ b → cond b (some y) (firstAfter x L) ≡ firstAfter x L
+    go : (b : Bool) → precedes x y ≡ b → cond b (some y) (first_after x L) ≡ first_after x L
     go true e = absurd (h e)
     go false e = refl
 
-hit : (L : List (List ℕ)) (x y : List ℕ) → Before x y → firstAfter x (y ∷ L) ≡ some y
-unfolding firstAfter
-hit L x y h = ap (λ (b : Bool). cond {A = Option (List ℕ)} b (some y) (firstAfter x L)) h
+hit : (L : List (List ℕ)) (x y : List ℕ) → Before x y → first_after x (y ∷ L) ≡ some y
+unfolding first_after
+hit L x y h = ap (λ (b : Bool). cond {A = Option (List ℕ)} b (some y) (first_after x L)) h
 
 -- If all members of a list come after x, the first of them follows x.
-all_after : (L : List (List ℕ)) (x : List ℕ) → ((y : List ℕ) → Memᴰ y L → Before x y) → firstAfter x L ≡ nth L 0
-unfolding nth firstAfter
+all_after : (L : List (List ℕ)) (x : List ℕ) → ((y : List ℕ) → Memᴰ y L → Before x y) → first_after x L ≡ nth L 0
+unfolding nth first_after
 all_after [] x h = refl
 all_after (y ∷ L) x h = hit L x y (h y (Memᴰ.head refl))
 
-next-nth : (L : List (List ℕ)) → Ascends L → (k : ℕ) (x : List ℕ) → nth L k ≡ some x → firstAfter x L ≡ nth L (suc k)
+next-nth : (L : List (List ℕ)) → Ascends L → (k : ℕ) (x : List ℕ) → nth L k ≡ some x → first_after x L ≡ nth L (suc k)
 unfolding nth
 next-nth [] a k x e = let z : ◌≡◌ {A = ℕ} 0 1 = cc in absurd (omega arith)
 next-nth (y ∷ L) a zero x e =
     let same : y ≡ x = cc in
-    subst (λ (w : List ℕ). firstAfter w (y ∷ L) ≡ nth L 0) same (skip L y y (before-irrefl y) ∙ all_after L y a.0)
+    subst (λ (w : List ℕ). first_after w (y ∷ L) ≡ nth L 0) same (skip L y y (before-irrefl y) ∙ all_after L y a.0)
 next-nth (y ∷ L) a (suc k) x e =
     skip L x y (λ h. before-irrefl x (before-trans x y x h (a.0 x (nth-member L k x e)))) ∙ next-nth L a.1 k x e
 
@@ -134,19 +134,19 @@ module _ (n F : ℕ) (low : 2 ≤ n) (small : n ≤ 64) (f : Counts F) where
   unfolding listing
   listing-exactly bytes = (
     λ m.
-        let (d, i, e) = map_source recordOf (runs (span n F) [] 7) m in
+        let (d, i, e) = map_source record_of (runs (span n F) [] 7) m in
         let (l, r) = run-member (span n F) [] 7 d i in
         subst (λ (b : List ℕ). Listed n F b) (sym e) (run-listed n F small f d l r),
     λ l.
         let (d, seven, r, e) = listed-told n F f bytes l in
-        Memᴰ.cast e (map-member recordOf (subst (λ (k : ℕ). Memᴰ d (runs (span n F) [] k)) seven (member-run (span n F) [] d r))),
+        Memᴰ.cast e (map-member record_of (subst (λ (k : ℕ). Memᴰ d (runs (span n F) [] k)) seven (member-run (span n F) [] d r))),
   )
 
   -- The list is "in the order of their bytes".
   pub listing-ascends : Ascends (listing n F)
   unfolding listing
   listing-ascends =
-      ascends-map recordOf (runs (span n F) [] 7)
+      ascends-map record_of (runs (span n F) [] 7)
       (λ d e i j h. let (l, r) = run-member (span n F) [] 7 d i in let (m, s) = run-member (span n F) [] 7 e j in record-before n F d e l m r s h)
       (runs-ascend (span n F) [] 7)
 
@@ -187,12 +187,12 @@ module _ (n F : ℕ) (low : 2 ≤ n) (small : n ≤ 64) (f : Counts F) where
   )
 
   -- Raising the numbers of a record gives the record that follows.
-  pub following-raised : (d : List ℕ) → length d ≡ 7 → Run (span n F) [] d → following n F (recordOf d) ≡ map recordOf (raised (span n F) [] d)
+  pub following-raised : (d : List ℕ) → length d ≡ 7 → Run (span n F) [] d → following n F (record_of d) ≡ map record_of (raised (span n F) [] d)
   unfolding following
   following-raised d seven r = go (raised (span n F) [] d) (raises (span n F) (span_fits n F low) [] d r)
     where
       -- numbers of a record of the listing that comes after
-      after : (s : List ℕ) → Memᴰ s (listing n F) → Before (recordOf d) s → (e : List ℕ) × (length e ≡ 7) × Run (span n F) [] e × (s ≡ recordOf e) × Before d e
+      after : (s : List ℕ) → Memᴰ s (listing n F) → Before (record_of d) s → (e : List ℕ) × (length e ≡ 7) × Run (span n F) [] e × (s ≡ record_of e) × Before d e
       after s m h =
           let (e, l, q, i) = listed-told n F f s ((listing-exactly s).0 m) in (
             e,
@@ -200,26 +200,26 @@ module _ (n F : ℕ) (low : 2 ≤ n) (small : n ≤ 64) (f : Counts F) where
             q,
             i,
             ⊎_elim (λ (b : Before d e). b)
-                (⊎_elim (λ (k : d ≡ e). absurd (before-irrefl s (subst (λ (w : List ℕ). Before w s) (ap recordOf k ∙ sym i) h)))
-                (λ (b : Before e d). absurd (before-irrefl s (before-trans s (recordOf d) s (subst (λ (w : List ℕ). Before w (recordOf d)) (sym i) (record-before n F e d l seven q r b)) h))))
+                (⊎_elim (λ (k : d ≡ e). absurd (before-irrefl s (subst (λ (w : List ℕ). Before w s) (ap record_of k ∙ sym i) h)))
+                (λ (b : Before e d). absurd (before-irrefl s (before-trans s (record_of d) s (subst (λ (w : List ℕ). Before w (record_of d)) (sym i) (record-before n F e d l seven q r b)) h))))
                 (before-cases d e),
           )
 
-      go : (o : Option (List ℕ)) → Raises (span n F) [] d o → firstAfter (recordOf d) (listing n F) ≡ map recordOf o
+      go : (o : Option (List ℕ)) → Raises (span n F) [] d o → first_after (record_of d) (listing n F) ≡ map record_of o
       go none h =
-          above-none (listing n F) (recordOf d) listing-ascends
+          above-none (listing n F) (record_of d) listing-ascends
           (λ s m b. let (e, l, q, i, k) = after s m b in h e q (l ∙ sym seven) k)
       go (some z) h =
           let long : length z ≡ 7 = h.long ∙ seven in
-          least_first (listing n F) (recordOf d) (recordOf z) listing-ascends
+          least_first (listing n F) (record_of d) (record_of z) listing-ascends
           (record {
-            among = (listing-exactly (recordOf z)).1 (run-listed n F small f z long h.run);
+            among = (listing-exactly (record_of z)).1 (run-listed n F small f z long h.run);
             above = record-before n F d z seven long r h.run h.above;
             least = λ s m b c.
                 let (e, l, q, i, k) = after s m b in
                 ⊎_elim (λ (w : Before e z). h.least e q (l ∙ sym seven) k w)
-                (⊎_elim (λ (w : e ≡ z). before-irrefl s (subst (λ (u : List ℕ). Before s u) (sym (ap recordOf w) ∙ sym i) c))
-                (λ (w : Before z e). before-irrefl s (before-trans s (recordOf z) s c (subst (λ (u : List ℕ). Before (recordOf z) u) (sym i) (record-before n F z e long l h.run q w)))))
+                (⊎_elim (λ (w : e ≡ z). before-irrefl s (subst (λ (u : List ℕ). Before s u) (sym (ap record_of w) ∙ sym i) c))
+                (λ (w : Before z e). before-irrefl s (before-trans s (record_of z) s c (subst (λ (u : List ℕ). Before (record_of z) u) (sym i) (record-before n F z e long l h.run q w)))))
                 (before-cases e z);
           })
 
@@ -234,9 +234,9 @@ module _ (n F : ℕ) (low : 2 ≤ n) (small : n ≤ 64) (f : Counts F) where
   calls-nth zero = all_after (listing n F) [] (λ s m. listed-bytes s ((listing-exactly s).0 m))
   calls-nth (suc k) = go (nth (listing n F) k) refl (calls-nth k)
     where
-      go : (o : Option (List ℕ)) → nth (listing n F) k ≡ o → calls n F k ≡ nth (listing n F) k → bind (calls n F k) (λ b. firstAfter b (listing n F)) ≡ nth (listing n F) (suc k)
-      go none e c = ap (λ (u : Option (List ℕ)). bind u (λ b. firstAfter b (listing n F))) (c ∙ e) ∙ sym (nth_past (listing n F) k e)
-      go (some x) e c = ap (λ (u : Option (List ℕ)). bind u (λ b. firstAfter b (listing n F))) (c ∙ e) ∙ next-nth (listing n F) listing-ascends k x e
+      go : (o : Option (List ℕ)) → nth (listing n F) k ≡ o → calls n F k ≡ nth (listing n F) k → bind (calls n F k) (λ b. first_after b (listing n F)) ≡ nth (listing n F) (suc k)
+      go none e c = ap (λ (u : Option (List ℕ)). bind u (λ b. first_after b (listing n F))) (c ∙ e) ∙ sym (nth_past (listing n F) k e)
+      go (some x) e c = ap (λ (u : Option (List ℕ)). bind u (λ b. first_after b (listing n F))) (c ∙ e) ∙ next-nth (listing n F) listing-ascends k x e
 
   -- "Every such graph comes up once."
   pub comes-up : (k : ℕ) (bytes : List ℕ) → calls n F k ≡ some bytes → Listed n F bytes

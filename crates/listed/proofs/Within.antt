@@ -3,19 +3,19 @@ use mathlib.Core.List.{[], ◌∷◌}
 use mathlib.Core.Bool.{true}
 use Prim.Native.Nat.{ℕ, ◌≤◌}
 use lib.Dec.{eqb, leb}
-use Rattle.listed.specs.Listing.{typeSpan, rootSpan, middleSpan, lastSpan, span, Run}
+use Rattle.listed.specs.Listing.{type_span, root_span, middle_span, last_span, span, Run}
 
 abbrev pub Between : ℕ × ℕ → ℕ → Type 0
 Between s x = (s.0 ≤ x) × (x ≤ s.1)
 
 pub record Within (n F N t₀ c₀ t₁ c₁ t₂ c₂ : ℕ) : Type 0 where
   pub nodes : Between (1, 3) N
-  pub type0 : Between (typeSpan n true) t₀
-  pub links0 : Between (rootSpan F N) c₀
-  pub type1 : Between (typeSpan n (leb 2 N)) t₁
-  pub links1 : Between (middleSpan F N c₀) c₁
-  pub type2 : Between (typeSpan n (eqb N 3)) t₂
-  pub links2 : Between (lastSpan N c₀ c₁) c₂
+  pub type0 : Between (type_span n true) t₀
+  pub links0 : Between (root_span F N) c₀
+  pub type1 : Between (type_span n (leb 2 N)) t₁
+  pub links1 : Between (middle_span F N c₀) c₁
+  pub type2 : Between (type_span n (eqb N 3)) t₂
+  pub links2 : Between (last_span N c₀ c₁) c₂
 
 module _ {n F N t₀ c₀ t₁ c₁ t₂ c₂ : ℕ} where
   pub run-within : Run (span n F) [] (N ∷ t₀ ∷ c₀ ∷ t₁ ∷ c₁ ∷ t₂ ∷ c₂ ∷ []) → Within n F N t₀ c₀ t₁ c₁ t₂ c₂

@@ -13,25 +13,25 @@ use Rattle.record.specs.declared.GraphFault.{GraphFault}
 use Rattle.record.specs.declared.reading.Verdict.{Verdict}
 use Rattle.record.specs.declared.reading.Verdict.TheVariants as verdict
 use Rattle.record.specs.Read as graph
-use Rattle.record.specs.Reads.{ReadsAs, verdictOf}
+use Rattle.record.specs.Reads.{ReadsAs, verdict_of}
 use Rattle.replies.specs.declared.Side.TheVariants.{First}
 use Rattle.replies.specs.declared.Reply.TheVariants.{Table, Graph}
 use Rattle.replies.specs.Reply.{Result, refusing}
-use Rattle.listing.specs.Call.{continued, counted, afterReading, afterRecord, afterTable, stepped, stepping}
+use Rattle.listing.specs.Call.{continued, counted, after_reading, after_record, after_table, stepped, stepping}
 
 module _ (n F : ℕ) (bytes out : List ℕ) where
   pub over_none : {x : Result} → length bytes ≡ 0 → x ≡ counted F (continued n F [] out) out → x ≡ stepped n F bytes out
   unfolding stepped
   over_none {x} h e = go bytes h
     where
-      go : (l : List ℕ) → length l ≡ 0 → x ≡ afterRecord n l out (counted F (continued n F l out) out)
+      go : (l : List ℕ) → length l ≡ 0 → x ≡ after_record n l out (counted F (continued n F l out) out)
       go [] q = e
       go (b ∷ bs) q = absurd (omega arith)
 
-  after-reading : (next : Result) → length bytes ≢ 0 → afterRecord n bytes out next ≡ afterReading (graph.reading n bytes) out next
+  after-reading : (next : Result) → length bytes ≢ 0 → after_record n bytes out next ≡ after_reading (graph.reading n bytes) out next
   after-reading next h = go bytes h
     where
-      go : (l : List ℕ) → length l ≢ 0 → afterRecord n l out next ≡ afterReading (graph.reading n l) out next
+      go : (l : List ℕ) → length l ≢ 0 → after_record n l out next ≡ after_reading (graph.reading n l) out next
       go [] q = absurd (q refl)
       go (b ∷ bs) q = refl
 
@@ -41,7 +41,7 @@ module _ (n F : ℕ) (bytes out : List ℕ) where
     over-refused fault q =
         go (graph.reading n bytes) (sym q ∙ reads.verdict) ∙ sym (after-reading (counted F (continued n F bytes out) out) h)
       where
-        go : (o : graph.Reading) → verdict.Refused fault ≡ verdictOf o → refusing (Graph fault First) out ≡ afterReading o out (counted F (continued n F bytes out) out)
+        go : (o : graph.Reading) → verdict.Refused fault ≡ verdict_of o → refusing (Graph fault First) out ≡ after_reading o out (counted F (continued n F bytes out) out)
         go (graph.refused other) e = let same : fault ≡ other = cc in ap (λ (f : GraphFault). refusing (Graph f First) out) same
         go (graph.accepted rows) e = let z : ◌≡◌ {A = ℕ} 0 1 = cc in absurd (omega arith)
 
@@ -50,15 +50,15 @@ module _ (n F : ℕ) (bytes out : List ℕ) where
     over-accepted {x} q is =
         go (graph.reading n bytes) (sym q ∙ reads.verdict) ∙ sym (after-reading (counted F (continued n F bytes out) out) h)
       where
-        go : (o : graph.Reading) → verdict.Accepted ≡ verdictOf o → x ≡ afterReading o out (counted F (continued n F bytes out) out)
+        go : (o : graph.Reading) → verdict.Accepted ≡ verdict_of o → x ≡ after_reading o out (counted F (continued n F bytes out) out)
         go (graph.refused other) e = let z : ◌≡◌ {A = ℕ} 0 1 = cc in absurd (omega arith)
         go (graph.accepted rows) e = is
 
 module _ (n : ℕ) (t : List ℕ) (F : ℕ) (bytes out : List ℕ) {o : Opened} (is : o ≡ table.opened n t) where
   pub table-refused : (fault : TableFault) → o ≡ opened.Refused fault → refusing (Table fault) out ≡ stepping n t F bytes out
   unfolding stepping
-  table-refused fault e = ap (λ (x : Opened). afterTable x out (stepped n F bytes out)) (sym e ∙ is)
+  table-refused fault e = ap (λ (x : Opened). after_table x out (stepped n F bytes out)) (sym e ∙ is)
 
   pub table-accepted : {x : Result} → o ≡ opened.Accepted → x ≡ stepped n F bytes out → x ≡ stepping n t F bytes out
   unfolding stepping
-  table-accepted e q = q ∙ ap (λ (x : Opened). afterTable x out (stepped n F bytes out)) (sym e ∙ is)
+  table-accepted e q = q ∙ ap (λ (x : Opened). after_table x out (stepped n F bytes out)) (sym e ∙ is)

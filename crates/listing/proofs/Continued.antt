@@ -12,15 +12,15 @@ use lib.ListN.{length}
 use Rattle.encode.specs.Encode.{fitted}
 use Rattle.replies.specs.declared.Reply.TheVariants.{End, FeatureCount, NotListed}
 use Rattle.replies.specs.Reply.{Result, result_of, refusing}
-use Rattle.listed.specs.Listing.{span, Run, raised, recordOf, isListed, following}
-use Rattle.listed.specs.Numbers.{numbersOf, leastLinks0}
+use Rattle.listed.specs.Listing.{span, Run, raised, record_of, is_listed, following}
+use Rattle.listed.specs.Numbers.{numbers_of, least_links0}
 use Rattle.listed.proofs.Order.{false-true}
 use Rattle.listed.proofs.Stated.{Counts}
 use Rattle.listed.proofs.Places.{Small, run_small, run-count}
 use Rattle.listed.proofs.Following.{first_run, following-first, not_listed, numbers-listed, following-numbers, raised-run}
 use Rattle.listing.specs.declared.numbers.Numbers.{Numbers}
 use Rattle.listing.specs.declared.raising.Raised.{Raised}
-use Rattle.listing.specs.Numbers.{numberList, raisedList, Nodes}
+use Rattle.listing.specs.Numbers.{number_list, raised_list, Nodes}
 use Rattle.listing.specs.Call.{begins, delivered, continued, counted}
 
 -- 23 is given where F is neither 1 nor 2.
@@ -59,13 +59,13 @@ denied {b} e q = false-true (sym (not-true b e) ∙ q)
 -- whether numbers could be raised
 
 module _ (r : Raised) where
-  pub not-raised : not r.more ≡ true → raisedList r ≡ none
-  not-raised e = ap (λ (b : Bool). cond {A = Option (List ℕ)} b (some (numberList r.numbers)) none) (not-true r.more e)
+  pub not-raised : not r.more ≡ true → raised_list r ≡ none
+  not-raised e = ap (λ (b : Bool). cond {A = Option (List ℕ)} b (some (number_list r.numbers)) none) (not-true r.more e)
 
-  pub raised-to : not r.more ≡ false → raisedList r ≡ some (numberList r.numbers)
-  raised-to e = ap (λ (b : Bool). cond {A = Option (List ℕ)} b (some (numberList r.numbers)) none) (not-false r.more e)
+  pub raised-to : not r.more ≡ false → raised_list r ≡ some (number_list r.numbers)
+  raised-to e = ap (λ (b : Bool). cond {A = Option (List ℕ)} b (some (number_list r.numbers)) none) (not-false r.more e)
 
-begins-listed : (n F : ℕ) (bytes : List ℕ) → 0 < length bytes → begins n F bytes ≡ isListed n F bytes
+begins-listed : (n F : ℕ) (bytes : List ℕ) → 0 < length bytes → begins n F bytes ≡ is_listed n F bytes
 begins-listed n F [] h = absurd (omega arith)
 begins-listed n F (b ∷ bs) h = refl
 
@@ -76,55 +76,55 @@ module _ (n F : ℕ) (out : List ℕ) where
   module _ (low : 2 ≤ n) (small : n ≤ 64) (f : Counts F) where
     -- No bytes.
 
-    pub first-continued : (d : Numbers) → numberList d ≡ 1 ∷ 1 ∷ leastLinks0 F 1 →
-        result_of (fitted (recordOf (numberList d)) out) ≡ continued n F [] out
+    pub first-continued : (d : Numbers) → number_list d ≡ 1 ∷ 1 ∷ least_links0 F 1 →
+        result_of (fitted (record_of (number_list d)) out) ≡ continued n F [] out
     unfolding continued
     first-continued d e =
-        ap (λ (l : List ℕ). result_of (fitted (recordOf l) out)) e
+        ap (λ (l : List ℕ). result_of (fitted (record_of l) out)) e
         ∙ sym (ap (λ (o : Option (List ℕ)). delivered o out) (following-first n F low small f))
 
     -- Numbers within their bounds state a record that can be written.
-    pub run-written : (d : Numbers) → Run (span n F) [] (numberList d) → Nodes d × Small (recordOf (numberList d))
+    pub run-written : (d : Numbers) → Run (span n F) [] (number_list d) → Nodes d × Small (record_of (number_list d))
     run-written d r = (
       run-count n F d.nodes d.type0 d.links0 d.type1 d.links1 d.type2 d.links2 r,
       run_small n F d.nodes d.type0 d.links0 d.type1 d.links1 d.type2 d.links2 small r,
     )
 
-    pub first-written : (d : Numbers) → numberList d ≡ 1 ∷ 1 ∷ leastLinks0 F 1 → Nodes d × Small (recordOf (numberList d))
+    pub first-written : (d : Numbers) → number_list d ≡ 1 ∷ 1 ∷ least_links0 F 1 → Nodes d × Small (record_of (number_list d))
     first-written d e = run-written d (subst (λ (l : List ℕ). Run (span n F) [] l) (sym e) (first_run n F low small f))
 
     -- A record.
 
-    module _ (bytes : List ℕ) (some_byte : 0 < length bytes) (d : List ℕ) (is : d ≡ numbersOf bytes) where
-      pub refused : (Run (span n F) [] d → bytes ≡ recordOf d → ⊥) → refusing NotListed out ≡ continued n F bytes out
+    module _ (bytes : List ℕ) (some_byte : 0 < length bytes) (d : List ℕ) (is : d ≡ numbers_of bytes) where
+      pub refused : (Run (span n F) [] d → bytes ≡ record_of d → ⊥) → refusing NotListed out ≡ continued n F bytes out
       unfolding continued
       refused h =
           sym
           (ap (λ (b : Bool). by b (following n F bytes))
           (begins-listed n F bytes some_byte
-          ∙ not_listed n F low small f bytes (subst (λ (l : List ℕ). Run (span n F) [] l → bytes ≡ recordOf l → ⊥) is h)))
+          ∙ not_listed n F low small f bytes (subst (λ (l : List ℕ). Run (span n F) [] l → bytes ≡ record_of l → ⊥) is h)))
 
-      module _ (run : Run (span n F) [] d) (same : bytes ≡ recordOf d) where
-        within : Run (span n F) [] (numbersOf bytes)
+      module _ (run : Run (span n F) [] d) (same : bytes ≡ record_of d) where
+        within : Run (span n F) [] (numbers_of bytes)
         within = subst (λ (l : List ℕ). Run (span n F) [] l) is run
 
-        stated : bytes ≡ recordOf (numbersOf bytes)
-        stated = same ∙ ap recordOf is
+        stated : bytes ≡ record_of (numbers_of bytes)
+        stated = same ∙ ap record_of is
 
-        delivers : (o : Option (List ℕ)) → raised (span n F) [] d ≡ o → delivered (map recordOf o) out ≡ continued n F bytes out
+        delivers : (o : Option (List ℕ)) → raised (span n F) [] d ≡ o → delivered (map record_of o) out ≡ continued n F bytes out
         unfolding continued
         delivers o e =
             sym
             (ap₂ by (begins-listed n F bytes some_byte ∙ numbers-listed n F low small f bytes within stated)
             (following-numbers n F low small f bytes within stated
-            ∙ ap (λ (l : List ℕ). map recordOf (raised (span n F) [] l)) (sym is) ∙ ap (map recordOf) e))
+            ∙ ap (λ (l : List ℕ). map record_of (raised (span n F) [] l)) (sym is) ∙ ap (map record_of) e))
 
         pub ends : raised (span n F) [] d ≡ none → refusing End out ≡ continued n F bytes out
         ends e = delivers none e
 
-        pub goes_on : (z : List ℕ) → raised (span n F) [] d ≡ some z → result_of (fitted (recordOf z) out) ≡ continued n F bytes out
+        pub goes_on : (z : List ℕ) → raised (span n F) [] d ≡ some z → result_of (fitted (record_of z) out) ≡ continued n F bytes out
         goes_on z e = delivers (some z) e
 
-        pub next-written : (z : Numbers) → raised (span n F) [] d ≡ some (numberList z) → Nodes z × Small (recordOf (numberList z))
+        pub next-written : (z : Numbers) → raised (span n F) [] d ≡ some (number_list z) → Nodes z × Small (record_of (number_list z))
         next-written z e =
-            run-written z (raised-run n F low small f bytes within stated (numberList z) (ap (raised (span n F) []) (sym is) ∙ e))
+            run-written z (raised-run n F low small f bytes within stated (number_list z) (ap (raised (span n F) []) (sym is) ∙ e))

@@ -15,8 +15,8 @@ use Rattle.graphs.specs.Number.{canonical, written}
 use Rattle.acceptance.specs.declared.TableFault.{TableFault}
 use Rattle.acceptance.specs.declared.Opened.{Opened}
 use Rattle.acceptance.specs.declared.Opened.TheVariants as opened
-use Rattle.lattice.specs.Label.{Label, isFull}
-use Rattle.lattice.specs.Labels.{tableLabels, OfAnySize}
+use Rattle.lattice.specs.Label.{Label, is_full}
+use Rattle.lattice.specs.Labels.{table_labels, OfAnySize}
 use Rattle.acceptance.specs.Reply as table
 use Rattle.lattice.proofs.Laws.{accepted-size}
 use Rattle.acceptance.proofs.Acceptance.{opened-accepted}
@@ -31,7 +31,7 @@ use Rattle.replies.specs.declared.Side.TheVariants.{First}
 use Rattle.replies.specs.declared.Reply.{Reply}
 use Rattle.replies.specs.declared.Reply.TheVariants.{Length, End, Table, Graph, NoRoom, FeatureCount, NotListed}
 use Rattle.replies.specs.Reply.{Result, resulting, result_of, refusing}
-use Rattle.listed.specs.Listing.{precedes, Listed, LeastAbove, featuresBelow, unrangedRows, statedRows, listing, isListed, following, calls}
+use Rattle.listed.specs.Listing.{precedes, Listed, LeastAbove, features_below, unranged_rows, stated_rows, listing, is_listed, following, calls}
 use Rattle.listed.proofs.Order.{false-true}
 use Rattle.listed.proofs.Stated.{Counts}
 use Rattle.listed.proofs.Lengths.{listed-short}
@@ -40,15 +40,15 @@ use Rattle.listed.proofs.Calls as list-calls
 use Rattle.listed.proofs.Amounts as amounts
 use Rattle.listed.proofs.Few.{few-written}
 use Rattle.listed.proofs.Meaning as meaning
-use Rattle.listing.specs.Call.{begins, delivered, continued, counted, afterReading, afterRecord, afterTable, stepped, stepping}
+use Rattle.listing.specs.Call.{begins, delivered, continued, counted, after_reading, after_record, after_table, stepped, stepping}
 use Rattle.listing.proofs.Continued.{counts-told, counted-on, counted-off}
 
 -- A record is listed exactly where it is accepted, its bytes are its own written form, and it has at most 3 nodes, features below F and no
 -- range.
 pub listed-exactly : (n F : ℕ) (t bytes : List ℕ) → Listed n F bytes ↔
     ((rows : List (Row Label)) × (graph.reading n bytes ≡ graph.accepted rows) ×
-    ((form : List (Row Label)) × (canonical eqb (graph.graphOfRows rows) ≡ written form) × (bytes ≡ encoded form)) × (length rows ≤ 3) ×
-    (featuresBelow F rows ≡ true) × (unrangedRows rows ≡ true))
+    ((form : List (Row Label)) × (canonical eqb (graph.graph_of_rows rows) ≡ written form) × (bytes ≡ encoded form)) × (length rows ≤ 3) ×
+    (features_below F rows ≡ true) × (unranged_rows rows ≡ true))
 listed-exactly n F t bytes = (
   λ l. (l.form, l.reads, (l.form, l.own, l.bytes-are), l.few, l.features, l.unranged),
   λ (rows, reads, (form, own, bytes-are), few, features, unranged).
@@ -93,12 +93,12 @@ module _ (n : ℕ) (t : List ℕ) (F : ℕ) (bytes out : List ℕ) where
 
   pub table-refused : (fault : TableFault) → table.opened n t ≡ opened.Refused fault → stepping n t F bytes out ≡ refusing (Table fault) out
   unfolding stepping
-  table-refused fault e = ap (λ (o : Opened). afterTable o out (stepped n F bytes out)) e
+  table-refused fault e = ap (λ (o : Opened). after_table o out (stepped n F bytes out)) e
 
   module _ (ok : table.opened n t ≡ opened.Accepted) where
     over : stepping n t F bytes out ≡ stepped n F bytes out
     unfolding stepping
-    over = ap (λ (o : Opened). afterTable o out (stepped n F bytes out)) ok
+    over = ap (λ (o : Opened). after_table o out (stepped n F bytes out)) ok
 
     low : 2 ≤ n
     low = (accepted-size n t (opened-accepted n t opened.Accepted (sym ok) refl)).0
@@ -112,18 +112,18 @@ module _ (n : ℕ) (t : List ℕ) (F : ℕ) (bytes out : List ℕ) where
     unfolding stepped
     record-refused fault h e = over ∙ go bytes h e (counted F (continued n F bytes out) out)
       where
-        go : (l : List ℕ) → (l ≡ [] → ⊥) → graph.reading n l ≡ graph.refused fault → (next : Result) → afterRecord n l out next ≡ refusing (Graph fault First) out
+        go : (l : List ℕ) → (l ≡ [] → ⊥) → graph.reading n l ≡ graph.refused fault → (next : Result) → after_record n l out next ≡ refusing (Graph fault First) out
         go [] p q next = absurd (p refl)
-        go (b ∷ bs) p q next = ap (λ (r : graph.Reading). afterReading r out next) q
+        go (b ∷ bs) p q next = ap (λ (r : graph.Reading). after_reading r out next) q
 
     read-on : Read n bytes → stepping n t F bytes out ≡ counted F (continued n F bytes out) out
     unfolding stepped
     read-on r = over ∙ go bytes r (counted F (continued n F bytes out) out)
       where
-        go : (l : List ℕ) → Read n l → (next : Result) → afterRecord n l out next ≡ next
+        go : (l : List ℕ) → Read n l → (next : Result) → after_record n l out next ≡ next
         go [] p next = refl
         go (b ∷ bs) (inl p) next = let z : ◌≡◌ {A = ℕ} 0 1 = cc in absurd (omega arith)
-        go (b ∷ bs) (inr (rows, q)) next = ap (λ (r : graph.Reading). afterReading r out next) q
+        go (b ∷ bs) (inr (rows, q)) next = ap (λ (r : graph.Reading). after_reading r out next) q
 
     -- "F outside 1 and 2 is 23", after the record.
     pub count-refused : Read n bytes → (Counts F → ⊥) → stepping n t F bytes out ≡ refusing FeatureCount out
@@ -133,10 +133,10 @@ module _ (n : ℕ) (t : List ℕ) (F : ℕ) (bytes out : List ℕ) where
       on : Read n bytes → stepping n t F bytes out ≡ continued n F bytes out
       on r = read-on r ∙ counted-on F (continued n F bytes out) out (counts-true F f)
 
-      unlisted : (Listed n F bytes → ⊥) → isListed n F bytes ≡ false
-      unlisted h = go (isListed n F bytes) refl
+      unlisted : (Listed n F bytes → ⊥) → is_listed n F bytes ≡ false
+      unlisted h = go (is_listed n F bytes) refl
         where
-          go : (b : Bool) → isListed n F bytes ≡ b → b ≡ false
+          go : (b : Bool) → is_listed n F bytes ≡ b → b ≡ false
           go true e = absurd (h ((list-calls.is-listed n F low small f bytes).0 e))
           go false e = refl
 
@@ -146,7 +146,7 @@ module _ (n : ℕ) (t : List ℕ) (F : ℕ) (bytes out : List ℕ) where
       unfolding continued
       unlisted-refused rows e some_byte h = on (inr (rows, e)) ∙ go bytes some_byte (unlisted h) (following n F bytes)
         where
-          go : (l : List ℕ) → (l ≡ [] → ⊥) → isListed n F l ≡ false → (o : Option (List ℕ)) →
+          go : (l : List ℕ) → (l ≡ [] → ⊥) → is_listed n F l ≡ false → (o : Option (List ℕ)) →
               cond (begins n F l) (delivered o out) (refusing NotListed out) ≡ refusing NotListed out
           go [] p q o = absurd (p refl)
           go (b ∷ bs) p q o = ap (λ (x : Bool). cond x (delivered o out) (refusing NotListed out)) q
@@ -194,7 +194,7 @@ told n t F bytes out = tabled (table.opened n t) refl
     begun ok f b (some r) e = at-record r ok f b e (delivers n t F bytes out ok f b ∙ ap (λ (o : Option (List ℕ)). delivered o out) e)
 
     listed : table.opened n t ≡ opened.Accepted → Counts F → (bytes ≡ [] → ⊥) → (rows : List (Row Label)) → graph.reading n bytes ≡ graph.accepted rows →
-        (b : Bool) → isListed n F bytes ≡ b → Told n t F bytes out
+        (b : Bool) → is_listed n F bytes ≡ b → Told n t F bytes out
     listed ok f h rows e true q =
         begun ok f (inr ((list-calls.is-listed n F (low n t F bytes out ok) (small n t F bytes out ok) f bytes).0 q)) (following n F bytes) refl
     listed ok f h rows e false q =
@@ -210,7 +210,7 @@ told n t F bytes out = tabled (table.opened n t) refl
     rowed : table.opened n t ≡ opened.Accepted → (bytes ≡ [] → ⊥) → (o : graph.Reading) → graph.reading n bytes ≡ o → Told n t F bytes out
     rowed ok h (graph.refused fault) e = bad-record fault ok h e (record-refused n t F bytes out ok fault h e)
     rowed ok h (graph.accepted rows) e =
-        count ok (inr (rows, e)) (λ f. listed ok f h rows e (isListed n F bytes) refl) (eqb F 1 || eqb F 2) refl
+        count ok (inr (rows, e)) (λ f. listed ok f h rows e (is_listed n F bytes) refl) (eqb F 1 || eqb F 2) refl
 
     byted : table.opened n t ≡ opened.Accepted → (l : List ℕ) → bytes ≡ l → Told n t F bytes out
     byted ok [] e = count ok (inl e) (λ f. begun ok f (inl e) (following n F bytes) refl) (eqb F 1 || eqb F 2) refl
@@ -366,12 +366,12 @@ module _ (n : ℕ) (t : List ℕ) (F : ℕ) (out : List ℕ) (ok : table.opened 
 pub record OneListed (n F : ℕ) (t : List ℕ) {A : Type 0} (g : GraphOn Label A) : Type 0 where
   pub bytes : List ℕ
   pub listed : Listed n F bytes
-  pub means : SameMeaning (tableLabels n t) g (graph.graphOfRows listed.form)
-  pub alone : (other : List ℕ) (also : Listed n F other) → SameMeaning (tableLabels n t) g (graph.graphOfRows also.form) → other ≡ bytes
+  pub means : SameMeaning (table_labels n t) g (graph.graph_of_rows listed.form)
+  pub alone : (other : List ℕ) (also : Listed n F other) → SameMeaning (table_labels n t) g (graph.graph_of_rows also.form) → other ≡ bytes
 
 -- An accepted record with at most three nodes, features below F and no range has the meaning of one listed record and no other.
 pub record-once : (n F : ℕ) (t bytes : List ℕ) (rows : List (Row Label)) → graph.reading n bytes ≡ graph.accepted rows → length rows ≤ 3 →
-    featuresBelow F rows ≡ true → unrangedRows rows ≡ true → OneListed n F t (graph.graphOfRows rows)
+    features_below F rows ≡ true → unranged_rows rows ≡ true → OneListed n F t (graph.graph_of_rows rows)
 record-once n F t bytes rows ok few below full =
     let (form, e) = accepted-fits n bytes rows ok in
     let (l, m) = meaning.graph-listed n F t bytes rows ok few below full form e in
@@ -381,7 +381,7 @@ record-once n F t bytes rows ok few below full =
 -- reached nodes, each link of a reached node has a feature below F, and no reached node has a range.
 pub graph-once : (n F : ℕ) (t : List ℕ) {A : Type 0} (same : A → A → Bool) → TellsApart same → (g : GraphOn Label A) → OfAnySize n t g → n ≤ 64 →
     (nodes : List A) → ((v : A) → Reached g v → Memᴰ v nodes) → length nodes ≤ 3 →
-    ((v w : A) (f : ℕ) → Reached g v → g.link v f ≡ some w → f < F) → ((v : A) → Reached g v → isFull (g.label v) ≡ true) → OneListed n F t g
+    ((v w : A) (f : ℕ) → Reached g v → g.link v f ≡ some w → f < F) → ((v : A) → Reached g v → is_full (g.label v) ≡ true) → OneListed n F t g
 graph-once n F t same tells g size small nodes all few low full =
     let (form, e, short) = few-written g size.any-size.features nodes all few same tells in
     let (l, m) = meaning.any-listed n F t same tells g size small form e short low full in
@@ -395,8 +395,8 @@ graph-once n F t same tells g size small nodes all few low full =
 -- "Over a two-type table with F of 1 the list has three records: chains of one, two and three nodes."
 
 pub three-chains : listing 2 1 ≡
-    encoded (statedRows (1 ∷ 1 ∷ 0 ∷ 0 ∷ 0 ∷ 0 ∷ 0 ∷ [])) ∷ encoded (statedRows (2 ∷ 1 ∷ 1 ∷ 1 ∷ 0 ∷ 0 ∷ 0 ∷ [])) ∷
-    encoded (statedRows (3 ∷ 1 ∷ 1 ∷ 1 ∷ 1 ∷ 1 ∷ 0 ∷ [])) ∷ []
+    encoded (stated_rows (1 ∷ 1 ∷ 0 ∷ 0 ∷ 0 ∷ 0 ∷ 0 ∷ [])) ∷ encoded (stated_rows (2 ∷ 1 ∷ 1 ∷ 1 ∷ 0 ∷ 0 ∷ 0 ∷ [])) ∷
+    encoded (stated_rows (3 ∷ 1 ∷ 1 ∷ 1 ∷ 1 ∷ 1 ∷ 0 ∷ [])) ∷ []
 three-chains = list-calls.three
 
 -- With m types besides the contradiction there are m + m² + m³ listed records for F of 1.

@@ -10,12 +10,12 @@ use Rattle.record.specs.Read as graph
 use Rattle.replies.specs.declared.Side.TheVariants.{First}
 use Rattle.replies.specs.declared.Reply.TheVariants.{End, Table, Graph, FeatureCount, NotListed}
 use Rattle.replies.specs.Reply.{Result, result_of, refusing}
-use Rattle.listed.specs.Listing.{isListed, following}
+use Rattle.listed.specs.Listing.{is_listed, following}
 
 -- The call has no record, or a listed one.
 abbrev pub begins : ℕ → ℕ → List ℕ → Bool
 begins n F [] = true
-begins n F (b ∷ bs) = isListed n F (b ∷ bs)
+begins n F (b ∷ bs) = is_listed n F (b ∷ bs)
 
 -- "the next or the end, the output then unchanged"; 8 where the output is shorter than the next record.
 abbrev pub delivered : Option (List ℕ) → List ℕ → Result
@@ -31,24 +31,24 @@ unfoldable pub counted : ℕ → Result → List ℕ → Result
 counted F next out = cond (eqb F 1 || eqb F 2) next (refusing FeatureCount out)
 
 -- A refused record gives its number; an accepted one lets the call go on.
-abbrev pub afterReading : graph.Reading → List ℕ → Result → Result
-afterReading (graph.refused fault) out next = refusing (Graph fault First) out
-afterReading (graph.accepted rows) out next = next
+abbrev pub after_reading : graph.Reading → List ℕ → Result → Result
+after_reading (graph.refused fault) out next = refusing (Graph fault First) out
+after_reading (graph.accepted rows) out next = next
 
 -- "both after the table and the record's own 4 to 7": a call without a record has no such check.
-abbrev pub afterRecord : ℕ → List ℕ → List ℕ → Result → Result
-afterRecord n [] out next = next
-afterRecord n (b ∷ bs) out next = afterReading (graph.reading n (b ∷ bs)) out next
+abbrev pub after_record : ℕ → List ℕ → List ℕ → Result → Result
+after_record n [] out next = next
+after_record n (b ∷ bs) out next = after_reading (graph.reading n (b ∷ bs)) out next
 
 -- A refused table gives its number; an accepted one lets the call go on.
-abbrev pub afterTable : Opened → List ℕ → Result → Result
-afterTable (opened.Refused fault) out next = refusing (Table fault) out
-afterTable opened.Accepted out next = next
+abbrev pub after_table : Opened → List ℕ → Result → Result
+after_table (opened.Refused fault) out next = refusing (Table fault) out
+after_table opened.Accepted out next = next
 
 -- The call over an accepted table.
 unfoldable pub stepped : ℕ → ℕ → List ℕ → List ℕ → Result
-stepped n F bytes out = afterRecord n bytes out (counted F (continued n F bytes out) out)
+stepped n F bytes out = after_record n bytes out (counted F (continued n F bytes out) out)
 
 -- The whole call.
 unfoldable pub stepping : ℕ → List ℕ → ℕ → List ℕ → List ℕ → Result
-stepping n t F bytes out = afterTable (table.opened n t) out (stepped n F bytes out)
+stepping n t F bytes out = after_table (table.opened n t) out (stepped n F bytes out)

@@ -6,8 +6,8 @@ use Rattle.listing.specs.declared.spans.Span.{Span}
 use Rattle.listing.specs.declared.raising.Raised.{Raised}
 
 -- the seven numbers as a list
-abbrev pub numberList : Numbers → List ℕ
-numberList d = d.nodes ∷ d.type0 ∷ d.links0 ∷ d.type1 ∷ d.links1 ∷ d.type2 ∷ d.links2 ∷ []
+abbrev pub number_list : Numbers → List ℕ
+number_list d = d.nodes ∷ d.type0 ∷ d.links0 ∷ d.type1 ∷ d.links1 ∷ d.type2 ∷ d.links2 ∷ []
 
 -- there are one to three nodes
 abbrev pub Nodes : Numbers → Type 0
@@ -18,5 +18,5 @@ abbrev pub Ends : Span → ℕ × ℕ → Type 0
 Ends s ends = (s.low ≡ ends.0) × (s.high ≡ ends.1)
 
 -- The raised numbers as a list; none where no number can be raised.
-abbrev pub raisedList : Raised → Option (List ℕ)
-raisedList r = cond r.more (some (numberList r.numbers)) none
+abbrev pub raised_list : Raised → Option (List ℕ)
+raised_list r = cond r.more (some (number_list r.numbers)) none

@@ -6,9 +6,9 @@
 ghost use Rattle.std.specs.Prelude.{◌≡◌, ◌||◌, [], ℕ, ◌≤◌, ◌<◌, eqb, length, get_or};
 ghost use Rattle.encode.specs.Encode.{fitted};
 ghost use Rattle.replies.specs.Reply.{resulting, result_of};
-ghost use Rattle.listed.specs.Listing.{recordOf};
+ghost use Rattle.listed.specs.Listing.{record_of};
 ghost use Rattle.listing.specs.Call.{continued, counted, stepped, stepping};
-ghost use Rattle.listing.specs.Numbers.{numberList, Nodes};
+ghost use Rattle.listing.specs.Numbers.{number_list, Nodes};
 
 use acceptance::Opened;
 use numbers::Numbers;
@@ -21,8 +21,8 @@ pub mod spans;
 
 // Writes the record that the numbers state, where it fits.
 fn write(d: Numbers, out: &mut [u8]) -> Reply
-    requires { Nodes d × ((i : ℕ) → get_or (recordOf (numberList d)) i 0 < 256) }
-    ensures { resulting result out.new ≡ result_of (fitted (recordOf (numberList d)) out.old) }
+    requires { Nodes d × ((i : ℕ) → get_or (record_of (number_list d)) i 0 < 256) }
+    ensures { resulting result out.new ≡ result_of (fitted (record_of (number_list d)) out.old) }
 {
     let length = numbers::length_of(d);
     if out.len() < length {

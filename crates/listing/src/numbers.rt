@@ -1,10 +1,10 @@
 // The seven numbers that state a listed record, and the record's bytes by these numbers.
 
 ghost use Rattle.std.specs.Prelude.{◌≡◌, cond, true, ◌↔◌, ◌+◌, ◌≤◌, ◌<◌, length, get_or};
-ghost use Rattle.listed.specs.Listing.{heir, recordOf};
-ghost use Rattle.listed.specs.Numbers.{rootLinks, numbersOf, rowBytes};
+ghost use Rattle.listed.specs.Listing.{heir, record_of};
+ghost use Rattle.listed.specs.Numbers.{root_links, numbers_of, row_bytes};
 ghost use Rattle.listed.specs.Numbers.{width as width_of};
-ghost use Rattle.listing.specs.Numbers.{numberList, Nodes};
+ghost use Rattle.listing.specs.Numbers.{number_list, Nodes};
 
 // The number of nodes, and the type and the links of each of three nodes, by number; a node that is not there has 0 and 0. Links by number: 0,
 // none; 1, 2 and 3, by feature 0, by feature 1 and by both to one node; 4, of the root alone, feature 0 to node 1 and feature 1 to node 2.
@@ -52,7 +52,7 @@ fn byte_if(there: bool, bytes: &[u8], at: usize) -> usize
 
 // The number of the root's links, by the bytes of a record.
 fn root_links(bytes: &[u8]) -> usize
-    ensures { result ≡ rootLinks bytes.now }
+    ensures { result ≡ root_links bytes.now }
 {
     let map = byte_at(bytes, 2);
     if map != 3 {
@@ -66,7 +66,7 @@ fn root_links(bytes: &[u8]) -> usize
 
 // The seven numbers that these bytes would have as a listed record.
 pub fn numbers_of(bytes: &[u8]) -> Numbers
-    ensures { numberList result ≡ numbersOf bytes.now }
+    ensures { number_list result ≡ numbers_of bytes.now }
 {
     let nodes = byte_at(bytes, 0);
     let type0 = byte_at(bytes, 1);
@@ -91,7 +91,7 @@ pub fn numbers_of(bytes: &[u8]) -> Numbers
 // The length of the record that the numbers state.
 pub fn length_of(d: Numbers) -> usize
     requires { Nodes d }
-    ensures { result ≡ length (recordOf (numberList d)) }
+    ensures { result ≡ length (record_of (number_list d)) }
 {
     let one = 10 + width(d.links0);
     if d.nodes == 1 {
@@ -114,7 +114,7 @@ fn heir_of(v: usize) -> usize
 // The byte at a place of the row of node v.
 fn row_byte(v: usize, label: usize, links: usize, at: usize) -> usize
     requires { at < 9 + width_of links }
-    ensures { result ≡ get_or (rowBytes v label links) at 0 }
+    ensures { result ≡ get_or (row_bytes v label links) at 0 }
 {
     if 4 <= links {
         let row = [label, 3, 0, 0, 0, 0, 0, 0, 0, 1, 2];
@@ -127,8 +127,8 @@ fn row_byte(v: usize, label: usize, links: usize, at: usize) -> usize
 
 // The byte at a place of the record that the numbers state.
 pub fn record_byte(d: Numbers, at: usize) -> usize
-    requires { Nodes d × (at < length (recordOf (numberList d))) }
-    ensures { result ≡ get_or (recordOf (numberList d)) at 0 }
+    requires { Nodes d × (at < length (record_of (number_list d))) }
+    ensures { result ≡ get_or (record_of (number_list d)) at 0 }
 {
     if at == 0 {
         return d.nodes;
@@ -147,7 +147,7 @@ pub fn record_byte(d: Numbers, at: usize) -> usize
 // Whether the bytes are the record that the numbers state.
 pub fn is_record(d: Numbers, bytes: &[u8]) -> bool
     requires { Nodes d }
-    ensures { (result ≡ true) ↔ (bytes.now ≡ recordOf (numberList d)) }
+    ensures { (result ≡ true) ↔ (bytes.now ≡ record_of (number_list d)) }
 {
     if bytes.len() != length_of(d) {
         return false;

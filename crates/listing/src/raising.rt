@@ -3,8 +3,8 @@
 ghost use Rattle.std.specs.Prelude.{◌≡◌, true, ◌↔◌, [], ◌∷◌, ◌<◌};
 ghost use Rattle.std.proofs.Math.Option.{none};
 ghost use Rattle.listed.specs.Listing.{span, Run, raised};
-ghost use Rattle.listed.specs.Numbers.{leastBehind1, leastLinks1, leastType1, leastLinks0};
-ghost use Rattle.listing.specs.Numbers.{numberList, raisedList};
+ghost use Rattle.listed.specs.Numbers.{least_behind1, least_links1, least_type1, least_links0};
+ghost use Rattle.listing.specs.Numbers.{number_list, raised_list};
 
 use crate::numbers::Numbers;
 use crate::spans::{is_within, last_span, middle_span, root_span, type_span};
@@ -19,7 +19,7 @@ pub struct Raised {
 // Whether all seven numbers are within their bounds.
 pub fn are_within(n: usize, features: usize, d: Numbers) -> bool
     requires { 0 < n }
-    ensures { (result ≡ true) ↔ Run (span n features) [] (numberList d) }
+    ensures { (result ≡ true) ↔ Run (span n features) [] (number_list d) }
 {
     let nodes = d.nodes;
     let links0 = d.links0;
@@ -50,7 +50,7 @@ pub fn are_within(n: usize, features: usize, d: Numbers) -> bool
 
 // The given numbers, with the least for node 2.
 fn from_type2(nodes: usize, type0: usize, links0: usize, type1: usize, links1: usize) -> Numbers
-    ensures { numberList result ≡ nodes ∷ type0 ∷ links0 ∷ type1 ∷ links1 ∷ leastBehind1 nodes }
+    ensures { number_list result ≡ nodes ∷ type0 ∷ links0 ∷ type1 ∷ links1 ∷ least_behind1 nodes }
 {
     let type2 = if nodes == 3 { 1 } else { 0 };
     Numbers {
@@ -66,7 +66,7 @@ fn from_type2(nodes: usize, type0: usize, links0: usize, type1: usize, links1: u
 
 // The given numbers, with the least for the links of node 1 and for node 2.
 fn from_links1(features: usize, nodes: usize, type0: usize, links0: usize, type1: usize) -> Numbers
-    ensures { numberList result ≡ nodes ∷ type0 ∷ links0 ∷ type1 ∷ leastLinks1 features nodes links0 }
+    ensures { number_list result ≡ nodes ∷ type0 ∷ links0 ∷ type1 ∷ least_links1 features nodes links0 }
 {
     let s = middle_span(features, nodes, links0);
     let low = s.low;
@@ -75,7 +75,7 @@ fn from_links1(features: usize, nodes: usize, type0: usize, links0: usize, type1
 
 // The given numbers, with the least for nodes 1 and 2.
 fn from_type1(features: usize, nodes: usize, type0: usize, links0: usize) -> Numbers
-    ensures { numberList result ≡ nodes ∷ type0 ∷ links0 ∷ leastType1 features nodes links0 }
+    ensures { number_list result ≡ nodes ∷ type0 ∷ links0 ∷ least_type1 features nodes links0 }
 {
     if 2 <= nodes {
         return from_links1(features, nodes, type0, links0, 1);
@@ -85,7 +85,7 @@ fn from_type1(features: usize, nodes: usize, type0: usize, links0: usize) -> Num
 
 // The given numbers, with the least for the root's links and for nodes 1 and 2.
 pub fn from_links0(features: usize, nodes: usize, type0: usize) -> Numbers
-    ensures { numberList result ≡ nodes ∷ type0 ∷ leastLinks0 features nodes }
+    ensures { number_list result ≡ nodes ∷ type0 ∷ least_links0 features nodes }
 {
     let s = root_span(features, nodes);
     let low = s.low;
@@ -95,7 +95,7 @@ pub fn from_links0(features: usize, nodes: usize, type0: usize) -> Numbers
 // The numbers of the next record: the last number that can be raised is raised, and those behind it take their least.
 pub fn raise(n: usize, features: usize, d: Numbers) -> Raised
     requires { 0 < n }
-    ensures { raisedList result ≡ raised (span n features) [] (numberList d) }
+    ensures { raised_list result ≡ raised (span n features) [] (number_list d) }
 {
     let nodes = d.nodes;
     let type0 = d.type0;
@@ -151,7 +151,7 @@ pub fn raise(n: usize, features: usize, d: Numbers) -> Raised
 fn raise_first(n: usize, features: usize, d: Numbers) -> Raised
     requires n_nonzero { 0 < n }
     requires links2_value { raised (span n features) (d.type1 ∷ d.links0 ∷ d.type0 ∷ d.nodes ∷ []) (d.links1 ∷ d.type2 ∷ d.links2 ∷ []) ≡ none }
-    ensures { raisedList result ≡ raised (span n features) [] (numberList d) }
+    ensures { raised_list result ≡ raised (span n features) [] (number_list d) }
 {
     let nodes = d.nodes;
     let type0 = d.type0;

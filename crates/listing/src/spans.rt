@@ -1,7 +1,7 @@
 // What may stand at each place of the seven numbers: a span that the numbers before it give.
 
 ghost use Rattle.std.specs.Prelude.{◌≡◌, true, ◌↔◌, ◌≤◌, ◌<◌};
-ghost use Rattle.listed.specs.Listing.{sets, typeSpan, rootSpan, middleSpan, lastSpan};
+ghost use Rattle.listed.specs.Listing.{sets, type_span, root_span, middle_span, last_span};
 ghost use Rattle.listing.specs.Numbers.{Ends};
 
 // The least and the greatest number that may stand at one place.
@@ -14,7 +14,7 @@ pub struct Span {
 // The span of a node's type over a table with n types, for a node that is there or not.
 pub fn type_span(n: usize, there: bool) -> Span
     requires { 0 < n }
-    ensures { Ends result (typeSpan n there) }
+    ensures { Ends result (type_span n there) }
 {
     if there {
         Span {
@@ -35,7 +35,7 @@ fn link_sets(features: usize) -> usize
 
 // The span of the root's links.
 pub fn root_span(features: usize, nodes: usize) -> Span
-    ensures { Ends result (rootSpan features nodes) }
+    ensures { Ends result (root_span features nodes) }
 {
     if nodes == 1 {
         return Span { low: 0, high: 0 };
@@ -57,7 +57,7 @@ pub fn root_span(features: usize, nodes: usize) -> Span
 
 // The span of the links of node 1.
 pub fn middle_span(features: usize, nodes: usize, links0: usize) -> Span
-    ensures { Ends result (middleSpan features nodes links0) }
+    ensures { Ends result (middle_span features nodes links0) }
 {
     if nodes != 3 {
         return Span { low: 0, high: 0 };
@@ -76,7 +76,7 @@ pub fn middle_span(features: usize, nodes: usize, links0: usize) -> Span
 
 // The span of the links of node 2.
 pub fn last_span(nodes: usize, links0: usize, links1: usize) -> Span
-    ensures { Ends result (lastSpan nodes links0 links1) }
+    ensures { Ends result (last_span nodes links0 links1) }
 {
     if nodes != 3 {
         return Span { low: 0, high: 0 };

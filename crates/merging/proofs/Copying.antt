@@ -1,19 +1,19 @@
 -- The loops that copy: the words and spans of the two graphs, and the rows of classes.
 use Rattle.std.proofs.Common.{◌≡◌, ℕ, ◌+◌, ◌-◌, ◌%◌, ◌<◌, ◌≤◌, List, length, get_or, set, sym, refl, ap, ◌∙◌, subst, arith, length-set}
 use native.Mathlib.Decide.{dec_lt}
-use Rattle.layout.specs.Layout.{header, rowFrom, rowEnd}
+use Rattle.layout.specs.Layout.{header, row_from, row_end}
 use Rattle.classes.proofs.Roots.{stored, unstored}
-use Rattle.merging.specs.Rows.{WordsCopied, SpansCopied, RowCopied, classWord}
+use Rattle.merging.specs.Rows.{WordsCopied, SpansCopied, RowCopied, class_word}
 
 -- A stored value is read back at an equal place.
 pub stored_at : (l : List ℕ) (i a k : ℕ) → i < length l → k ≡ i → get_or (set l i a) k 0 ≡ a
 stored_at l i a k h e = ap (λ (n : ℕ). get_or (set l i a) n 0) e ∙ stored l i a h
 
-pub words-start : (ws : List ℕ) (at shift : ℕ) (pool : List ℕ) → WordsCopied ws (rowFrom ws 0) at shift pool pool at
+pub words-start : (ws : List ℕ) (at shift : ℕ) (pool : List ℕ) → WordsCopied ws (row_from ws 0) at shift pool pool at
 words-start ws at shift pool =
     record { long = refl; kept = λ k h. refl; counted = refl; words_are = λ i h. absurd (omega arith) }
 
-pub words_step : {ws : List ℕ} {k at shift : ℕ} {pool pool' : List ℕ} {next : ℕ} → rowFrom ws 0 ≤ k →
+pub words_step : {ws : List ℕ} {k at shift : ℕ} {pool pool' : List ℕ} {next : ℕ} → row_from ws 0 ≤ k →
     WordsCopied ws k at shift pool pool' next → next < length pool →
     WordsCopied ws (k + 1) at shift pool (set pool' next ((get_or ws k 0 + shift) % 65536)) (next + 1)
 words_step {ws} {k} {at} {shift} {pool} {pool'} {next} low s room =
@@ -21,14 +21,14 @@ words_step {ws} {k} {at} {shift} {pool} {pool'} {next} low s room =
       long = length-set pool' next ((get_or ws k 0 + shift) % 65536) ∙ s.long;
       kept = λ j h. unstored pool' next ((get_or ws k 0 + shift) % 65536) j (λ e. omega (arith, s.counted)) ∙ s.kept j h;
       counted = omega (arith, s.counted);
-      words_are = λ i h. words_are i h (dec_lt (rowFrom ws 0 + i) k);
+      words_are = λ i h. words_are i h (dec_lt (row_from ws 0 + i) k);
     }
   where
-    words_are : (i : ℕ) → rowFrom ws 0 + i < k + 1 → Dec (rowFrom ws 0 + i < k) →
-        get_or (set pool' next ((get_or ws k 0 + shift) % 65536)) (at + i) 0 ≡ (get_or ws (rowFrom ws 0 + i) 0 + shift) % 65536
+    words_are : (i : ℕ) → row_from ws 0 + i < k + 1 → Dec (row_from ws 0 + i < k) →
+        get_or (set pool' next ((get_or ws k 0 + shift) % 65536)) (at + i) 0 ≡ (get_or ws (row_from ws 0 + i) 0 + shift) % 65536
     words_are i h (yes l) = unstored pool' next ((get_or ws k 0 + shift) % 65536) (at + i) (λ e. omega (arith, s.counted)) ∙ s.words_are i l
     words_are i h (no n) =
-        let e : k ≡ rowFrom ws 0 + i = omega arith in
+        let e : k ≡ row_from ws 0 + i = omega arith in
         stored_at pool' next ((get_or ws k 0 + shift) % 65536) (at + i) (omega (arith, s.long)) (omega (arith, s.counted)) ∙
         ap (λ (j : ℕ). (get_or ws j 0 + shift) % 65536) e
 
@@ -51,8 +51,8 @@ spans-start ws at shift start end =
 
 pub spans_step : {ws : List ℕ} {v at shift : ℕ} {start end start' end' : List ℕ} → SpansCopied ws v at shift start end start' end' →
     shift + v < length start → shift + v < length end →
-    SpansCopied ws (v + 1) at shift start end (set start' (shift + v) (((rowFrom ws v - rowFrom ws 0) + at) + header))
-    (set end' (shift + v) ((rowEnd ws v - rowFrom ws 0) + at))
+    SpansCopied ws (v + 1) at shift start end (set start' (shift + v) (((row_from ws v - row_from ws 0) + at) + header))
+    (set end' (shift + v) ((row_end ws v - row_from ws 0) + at))
 spans_step {ws} {v} {at} {shift} {start} {end} {start'} {end'} s start-room end-room =
     record {
       start-long = length-set start' (shift + v) (start_of v) ∙ s.start-long;
@@ -64,10 +64,10 @@ spans_step {ws} {v} {at} {shift} {start} {end} {start'} {end'} s start-room end-
     }
   where
     start_of : ℕ → ℕ
-    start_of u = ((rowFrom ws u - rowFrom ws 0) + at) + header
+    start_of u = ((row_from ws u - row_from ws 0) + at) + header
 
     end_of : ℕ → ℕ
-    end_of u = (rowEnd ws u - rowFrom ws 0) + at
+    end_of u = (row_end ws u - row_from ws 0) + at
 
     start_is : (u : ℕ) → u < v + 1 → Dec (u < v) → get_or (set start' (shift + v) (start_of v)) (shift + u) 0 ≡ start_of u
     start_is u h (yes l) = unstored start' (shift + v) (start_of v) (shift + u) (λ e. omega arith) ∙ s.start_is u l
@@ -94,7 +94,7 @@ row-start class pool start at graph =
     record { long = refl; kept = λ k h. refl; counted = refl; words_are = λ i h. absurd (omega arith) }
 
 pub row_step : {class pool : List ℕ} {start k at : ℕ} {graph graph' : List ℕ} {next : ℕ} → start ≤ k →
-    RowCopied class pool start k at graph graph' next → next < length graph → {w : ℕ} → w ≡ classWord class (get_or pool k 0) →
+    RowCopied class pool start k at graph graph' next → next < length graph → {w : ℕ} → w ≡ class_word class (get_or pool k 0) →
     RowCopied class pool start (k + 1) at graph (set graph' next w) (next + 1)
 row_step {class} {pool} {start} {k} {at} {graph} {graph'} {next} low s room {w} word =
     record {
@@ -105,12 +105,12 @@ row_step {class} {pool} {start} {k} {at} {graph} {graph'} {next} low s room {w} 
     }
   where
     words_are : (i : ℕ) → start + i < k + 1 → Dec (start + i < k) →
-        get_or (set graph' next w) (at + i) 0 ≡ classWord class (get_or pool (start + i) 0)
+        get_or (set graph' next w) (at + i) 0 ≡ class_word class (get_or pool (start + i) 0)
     words_are i h (yes l) = unstored graph' next w (at + i) (λ e. omega (arith, s.counted)) ∙ s.words_are i l
     words_are i h (no n) =
         let e : k ≡ start + i = omega arith in
         stored_at graph' next w (at + i) (omega (arith, s.long)) (omega (arith, s.counted)) ∙ word ∙
-        ap (λ (j : ℕ). classWord class (get_or pool j 0)) e
+        ap (λ (j : ℕ). class_word class (get_or pool j 0)) e
 
 pub row_done : {class pool : List ℕ} {start k end at : ℕ} {graph graph' : List ℕ} {next : ℕ} →
     RowCopied class pool start k at graph graph' next → k ≤ end → end ≤ k → RowCopied class pool start end at graph graph' next

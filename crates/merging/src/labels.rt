@@ -8,14 +8,14 @@ pub const LABELS: usize = 510 * HEADER;
 
 ghost use Rattle.std.specs.Prelude.{◌≡◌, ℕ, ◌+◌, ◌-◌, ◌<◌, ◌≤◌, false, length, slice_index};
 ghost use Rattle.lattice.specs.Label.{plain};
-ghost use Rattle.lattice.specs.Labels.{meetRanged};
-ghost use Rattle.bounds.specs.Sets.{Seekable, meetIn};
+ghost use Rattle.lattice.specs.Labels.{meet_ranged};
+ghost use Rattle.bounds.specs.Sets.{Seekable, meet_in};
 ghost use Rattle.layout.specs.Builder.{stated};
 ghost use Rattle.graphs.specs.Rows.{from};
 ghost use Rattle.graphs.specs.Unify.{any_of};
 ghost use Rattle.layout.specs.Layout.{Recorded, Shaped, size, label_at};
 ghost use Rattle.merging.specs.Clash.{contradicts};
-ghost use Rattle.merging.specs.Lowered.{Below, ClassLabels, Lowerable, Lowers, Meeting, labelOfClass, labelWords};
+ghost use Rattle.merging.specs.Lowered.{Below, ClassLabels, Lowerable, Lowers, Meeting, label_of_class, label_words};
 ghost use Rattle.merging.specs.Rows.{Operand};
 
 // The meet of two labels over n types: the meet of their types, and the overlap of their ranges.
@@ -28,7 +28,7 @@ fn meet<'a>(
 ) -> Label
     requires kind_lt_n { (a.kind < n) × (b.kind < n) × (n ≤ 64) }
     requires seekable { Seekable false n sets.now cells.now }
-    ensures { stated result ≡ meetRanged (meetIn n sets.now cells.now) (stated a) (stated b) }
+    ensures { stated result ≡ meet_ranged (meet_in n sets.now cells.now) (stated a) (stated b) }
 {
     Label {
         kind: bounds::sets::meet(n, sets, cells, a.kind as usize, b.kind as usize),
@@ -49,12 +49,12 @@ fn lower<'a>(
     labels: &mut [u16; LABELS],
 )
     requires recorded { Recorded graph.now }
-    requires shift_bound { (shift ≤ 255) × (length labels.old ≡ labelWords) }
-    requires lowerable { Lowerable n (meetIn n sets.now cells.now) graph.now labels.old × Seekable false n sets.now cells.now }
+    requires shift_bound { (shift ≤ 255) × (length labels.old ≡ label_words) }
+    requires lowerable { Lowerable n (meet_in n sets.now cells.now) graph.now labels.old × Seekable false n sets.now cells.now }
     requires by_index { (v : ℕ) → v < size graph.now → slice_index class.now (shift + v) < 510 }
-    ensures labels_len { length labels.new ≡ labelWords }
+    ensures labels_len { length labels.new ≡ label_words }
     ensures below { Below n labels.new }
-    ensures lowers { Lowers (meetIn n sets.now cells.now) graph.now class.now shift labels.old labels.new }
+    ensures lowers { Lowers (meet_in n sets.now cells.now) graph.now class.now shift labels.old labels.new }
 {
     let mut v = graph[0] as usize;
     while 0 < v {
@@ -73,9 +73,9 @@ fn lower<'a>(
 
 // Gives each of the first `nodes` classes the label top, over n types.
 fn clear(n: usize, nodes: usize, labels: &mut [u16; LABELS])
-    requires { (0 < n) × (n ≤ 64) × (nodes ≤ 510) × (length labels.old ≡ labelWords) × Below n labels.old }
-    ensures labels_len { (length labels.new ≡ labelWords) × Below n labels.new }
-    ensures by_index { (c : ℕ) → c < nodes → labelOfClass labels.new c ≡ plain (n - 1) }
+    requires { (0 < n) × (n ≤ 64) × (nodes ≤ 510) × (length labels.old ≡ label_words) × Below n labels.old }
+    ensures labels_len { (length labels.new ≡ label_words) × Below n labels.new }
+    ensures by_index { (c : ℕ) → c < nodes → label_of_class labels.new c ≡ plain (n - 1) }
 {
     let mut c = 0;
     while c < nodes {
@@ -103,8 +103,8 @@ pub fn class_labels<'a>(
     requires operand { Operand n a.now }
     requires operand_2 { Operand n b.now }
     requires by_index { (x : ℕ) → x < size a.now + size b.now → slice_index class.now x < 510 }
-    ensures below { Below n result × (length result ≡ labelWords) }
-    ensures class_labels { ClassLabels n (meetIn n sets.now cells.now) a.now b.now class.now result }
+    ensures below { Below n result × (length result ≡ label_words) }
+    ensures class_labels { ClassLabels n (meet_in n sets.now cells.now) a.now b.now class.now result }
 {
     let mut labels = [0u16; LABELS];
     let shift = a[0] as usize;

@@ -1,8 +1,8 @@
 // Two graphs side by side: the words of one graph's rows stand behind those of the other, and each node's links are a span of places.
 
 ghost use Rattle.std.specs.Prelude.{◌≡◌, ◌+◌, ◌≤◌, length};
-ghost use Rattle.layout.specs.Layout.{Recorded, size, rowsEnd};
-ghost use Rattle.merging.specs.Rows.{SpansCopied, WordsCopied, linksBoth, words_in};
+ghost use Rattle.layout.specs.Layout.{Recorded, size, rows_end};
+ghost use Rattle.merging.specs.Rows.{SpansCopied, WordsCopied, links_both, words_in};
 
 // The number of words of a graph's rows.
 fn word_count(graph: &[u16]) -> usize
@@ -16,7 +16,7 @@ fn word_count(graph: &[u16]) -> usize
 // The number of links of two graphs.
 pub fn link_count<'a>(a: &'a [u16], b: &'a [u16]) -> usize
     requires { Recorded a.now × Recorded b.now }
-    ensures { result ≡ linksBoth a.now b.now }
+    ensures { result ≡ links_both a.now b.now }
 {
     let nodes = a[0] as usize + b[0] as usize;
     word_count(a) + word_count(b) - layout::HEADER * nodes
@@ -27,7 +27,7 @@ pub fn link_count<'a>(a: &'a [u16], b: &'a [u16]) -> usize
 pub fn copy_words<'a>(graph: &'a [u16], at: usize, shift: usize, pool: &mut [u16]) -> usize
     requires recorded { Recorded graph.now }
     requires at_bound { (at ≤ 2558) × (shift ≤ 255) × (at + words_in graph.now ≤ length pool.old) }
-    ensures { WordsCopied graph.now (rowsEnd graph.now) at shift pool.old pool.new result }
+    ensures { WordsCopied graph.now (rows_end graph.now) at shift pool.old pool.new result }
 {
     let nodes = graph[0] as usize;
     let end = graph[nodes + 1] as usize;

@@ -1,9 +1,9 @@
 // Builds the graph of the classes in words, whose nodes are the nodes of both graphs. Nodes that represent no class have no links.
 
 ghost use Rattle.std.specs.Prelude.{◌≡◌, ℕ, ◌+◌, ◌<◌, ◌≤◌, length, slice_index};
-ghost use Rattle.layout.specs.Layout.{targetAt};
-ghost use Rattle.merging.specs.Lowered.{Below, labelWords};
-ghost use Rattle.merging.specs.Rows.{ClassGraph, Fillable, RowCopied, endOfRow};
+ghost use Rattle.layout.specs.Layout.{target_at};
+ghost use Rattle.merging.specs.Lowered.{Below, label_words};
+ghost use Rattle.merging.specs.Rows.{ClassGraph, Fillable, RowCopied, end_of_row};
 
 use crate::labels::LABELS;
 use layout::{HEADER, SCALE};
@@ -18,7 +18,7 @@ fn copy_row<'a>(
     graph: &mut [u16],
 ) -> usize
     requires start_le_end { (start ≤ end) × (end ≤ length pool.now) × (at + end ≤ length graph.old + start) × (length graph.old ≤ 65535) }
-    requires by_index { (k : ℕ) → start ≤ k → k < end → (targetAt pool.now k < 510) × (slice_index class.now (targetAt pool.now k) < 510) }
+    requires by_index { (k : ℕ) → start ≤ k → k < end → (target_at pool.now k < 510) × (slice_index class.now (target_at pool.now k) < 510) }
     ensures { RowCopied class.now pool.now start end at graph.old graph.new result }
 {
     let mut k = start;
@@ -42,7 +42,7 @@ fn end_of_row<'a>(
 ) -> usize
     requires x_bound { (x < 510) × (slice_index class.now x < 510) }
     requires x_bound_2 { (slice_index start.now x ≤ slice_index end.now x) × (slice_index end.now x ≤ 37692) }
-    ensures { result ≡ endOfRow class.now start.now end.now x }
+    ensures { result ≡ end_of_row class.now start.now end.now x }
 {
     let c = class[x] as usize;
     if c == x {
@@ -61,7 +61,7 @@ pub fn quotient<'a>(
     pool: &'a [u16],
     graph: &mut [u16],
 )
-    requires graph_len_bound { (length graph.old ≤ 65535) × (length labels.now ≡ labelWords) × Below 128 labels.now }
+    requires graph_len_bound { (length graph.old ≤ 65535) × (length labels.now ≡ label_words) × Below 128 labels.now }
     requires fillable { Fillable nodes class.now start.now end.now pool.now (length graph.old) }
     ensures { ClassGraph nodes class.now labels.now start.now end.now pool.now graph.new }
 {

@@ -12,20 +12,20 @@ use lib.ListN.{length, get_or, set, take, length-set}
 use lib.Seq.{take-suc}
 use Rattle.graphs.specs.Graph.{Reached}
 use Rattle.graphs.specs.Rows.{Row}
-use Rattle.graphs.specs.Number.{Canonical, canonical, manyNodes, manyLinks, written}
+use Rattle.graphs.specs.Number.{Canonical, canonical, many_nodes, many_links, written}
 use Rattle.graphs.proofs.Lists.{tells-eqb}
 use Rattle.graphs.proofs.Form.Rules.{form-ascending, form-features, form-labels, form-nonempty, form-short, form-targets}
 use Rattle.lattice.specs.Label.{Label}
 use Rattle.lattice.specs.Labels.{Known}
-use Rattle.layout.specs.Layout.{longest, Sound, graphIn, header, size, linksFrom, rowEnd, label_at, labelFrom, featureAt, targetAt, linkWord, linksBetween, rows_from, rows_of}
-use Rattle.layout.specs.Builder.{Built, Open, Same, putLabel}
+use Rattle.layout.specs.Layout.{longest, Sound, graph_in, header, size, links_from, row_end, label_at, label_from, feature_at, target_at, link_word, links_between, rows_from, rows_of}
+use Rattle.layout.specs.Builder.{Built, Open, Same, put_label}
 use Rattle.layout.proofs.Spans.{link_at, links-none, links-more}
 use Rattle.layout.proofs.Rows.{length-rows}
 use Rattle.layout.proofs.Places.{label-at, link-known}
 use Rattle.layout.proofs.Reaching.{reached-inside}
 use Rattle.layout.proofs.Builder.{length-put, label-put, put-before, Aimed, Orderly, built-begin, built-kept, built-shaped, built-sound, closed-rows, label_same, links-put, row_closes, rows-kept, same-before, same-trans, size_is, size-kept, size-rows}
 use Rattle.visits.specs.Walks.{Numbers}
-use Rattle.encoder.specs.NumberedRows.{degree, degrees, numberByte, numberedRow, numberedRows}
+use Rattle.encoder.specs.NumberedRows.{degree, degrees, number_byte, numbered_row, numbered_rows}
 use Rattle.encoder.proofs.RowBytes.{map_snoc}
 use Rattle.encoder.proofs.WrittenRows.{sum_more, sum-none, sum-upto}
 use Rattle.encode.proofs.WrittenForm.{visited-closed, visited-nodes, written-rows}
@@ -34,27 +34,27 @@ use Rattle.numbering.specs.Copies.{Closed, Numbered, Renumbers, RowCopied, RowsC
 -- One row.
 
 -- a link, its target by number
-abbrev byNumber : List ℕ → ℕ × ℕ → ℕ × ℕ
-byNumber numbers l = (l.0, numberByte numbers l.1)
+abbrev by_number : List ℕ → ℕ × ℕ → ℕ × ℕ
+by_number numbers l = (l.0, number_byte numbers l.1)
 
 -- How far a row is copied: the links of the places up to k.
 pub record Turn (ws numbers : List ℕ) (v at : ℕ) (old new : List ℕ) (next k : ℕ) : Type 0 where
   pub numbered : Numbered ws numbers v
   pub short : at + header + degree ws v ≤ longest
   pub room : at + header + degree ws v ≤ length old
-  pub low : linksFrom ws v ≤ k
-  pub high : k ≤ rowEnd ws v
-  pub next-is : next ≡ at + header + (k - linksFrom ws v)
+  pub low : links_from ws v ≤ k
+  pub high : k ≤ row_end ws v
+  pub next-is : next ≡ at + header + (k - links_from ws v)
   pub long : length new ≡ length old
   pub kept : Same old new 0 at
-  pub label : labelFrom new at ≡ label_at ws v
-  pub links : linksBetween new (at + header) next ≡ map (byNumber numbers) (linksBetween ws (linksFrom ws v) k)
+  pub label : label_from new at ≡ label_at ws v
+  pub links : links_between new (at + header) next ≡ map (by_number numbers) (links_between ws (links_from ws v) k)
 
 module _ {ws numbers : List ℕ} {v at : ℕ} where
   pub turn-start : (old : List ℕ) {opened : List ℕ} → Numbered ws numbers v → at + header + degree ws v ≤ longest → at + header + degree ws v ≤ length old →
-      opened ≡ putLabel old at (label_at ws v) → Turn ws numbers v at opened opened (at + header) (linksFrom ws v)
+      opened ≡ put_label old at (label_at ws v) → Turn ws numbers v at opened opened (at + header) (links_from ws v)
   turn-start old n short room e =
-      subst (λ (l : List ℕ). Turn ws numbers v at l l (at + header) (linksFrom ws v)) (sym e)
+      subst (λ (l : List ℕ). Turn ws numbers v at l l (at + header) (links_from ws v)) (sym e)
       record {
         numbered = n;
         short = short;
@@ -66,34 +66,34 @@ module _ {ws numbers : List ℕ} {v at : ℕ} where
         kept = λ k low high. refl;
         label = label-put old at (label_at ws v) (omega arith) (n.sound.shaped.labelled v n.inside).highest;
         links =
-            links-none (putLabel old at (label_at ws v)) (at + header)
-            ∙ ap (map (byNumber numbers)) (sym (links-none ws (linksFrom ws v)));
+            links-none (put_label old at (label_at ws v)) (at + header)
+            ∙ ap (map (by_number numbers)) (sym (links-none ws (links_from ws v)));
       }
 
   module _ {old new : List ℕ} {next k : ℕ} (t : Turn ws numbers v at old new next k) where
-    pub turn-ended : rowEnd ws v ≤ length ws
+    pub turn-ended : row_end ws v ≤ length ws
     turn-ended = (t.numbered.sound.shaped.node v t.numbered.inside).ended
 
-    pub turn-target : k < rowEnd ws v → targetAt ws k < 510
+    pub turn-target : k < row_end ws v → target_at ws k < 510
     turn-target h =
         omega (arith, t.numbered.sound.targets v k t.numbered.inside t.low h, t.numbered.sound.shaped.few)
 
-    pub turn-feature : k < rowEnd ws v → featureAt ws k < 64
+    pub turn-feature : k < row_end ws v → feature_at ws k < 64
     turn-feature h = t.numbered.sound.shaped.known v k t.numbered.inside t.low h
 
-    pub turn-number : k < rowEnd ws v → get_or numbers (targetAt ws k) 0 < 256
+    pub turn-number : k < row_end ws v → get_or numbers (target_at ws k) 0 < 256
     turn-number h = t.numbered.low k t.low h
 
-    pub turn-short : k < rowEnd ws v → next < longest
+    pub turn-short : k < row_end ws v → next < longest
     turn-short h = omega (arith, t.short, t.low, t.next-is)
 
-    pub turn-room : k < rowEnd ws v → next < length new
+    pub turn-room : k < row_end ws v → next < length new
     turn-room h = omega (arith, t.room, t.low, t.next-is, t.long)
 
-    pub turn_step : {w : ℕ} → k < rowEnd ws v → w ≡ linkWord (featureAt ws k, get_or numbers (targetAt ws k) 0) →
+    pub turn_step : {w : ℕ} → k < row_end ws v → w ≡ link_word (feature_at ws k, get_or numbers (target_at ws k) 0) →
         Turn ws numbers v at old (set new next w) (next + 1) (k + 1)
     turn_step {w} h e =
-        let number : ℕ = get_or numbers (targetAt ws k) 0 in
+        let number : ℕ = get_or numbers (target_at ws k) 0 in
         let small : number < 256 = turn-number h in
         let here : next < length new = turn-room h in
         let byte : number ≡ number % 256 = omega arith in
@@ -109,27 +109,27 @@ module _ {ws numbers : List ℕ} {v at : ℕ} where
           label =
               label_same new (set new next w) at (same-before new next w at (at + header) (omega (arith, t.next-is))) ∙ t.label;
           links =
-              ap (λ (x : ℕ). linksBetween (set new next x) (at + header) (next + 1)) e
-              ∙ links-put new (at + header) next (featureAt ws k, number) (omega (arith, t.next-is)) here (omega arith)
-              ∙ ap₂ (λ (ls : List (ℕ × ℕ)) (x : ℕ). ls ++ ((featureAt ws k, x) ∷ [])) t.links byte
-              ∙ sym (map_snoc (byNumber numbers) (linksBetween ws (linksFrom ws v) k) (link_at ws k))
-              ∙ ap (map (byNumber numbers)) (sym (links-more ws (linksFrom ws v) k t.low (omega (arith, turn-ended))));
+              ap (λ (x : ℕ). links_between (set new next x) (at + header) (next + 1)) e
+              ∙ links-put new (at + header) next (feature_at ws k, number) (omega (arith, t.next-is)) here (omega arith)
+              ∙ ap₂ (λ (ls : List (ℕ × ℕ)) (x : ℕ). ls ++ ((feature_at ws k, x) ∷ [])) t.links byte
+              ∙ sym (map_snoc (by_number numbers) (links_between ws (links_from ws v) k) (link_at ws k))
+              ∙ ap (map (by_number numbers)) (sym (links-more ws (links_from ws v) k t.low (omega (arith, turn-ended))));
         }
 
-  pub turn-done : (old : List ℕ) {opened new : List ℕ} {next k : ℕ} → opened ≡ putLabel old at (label_at ws v) →
-      Turn ws numbers v at opened new next k → rowEnd ws v ≤ k → RowCopied ws numbers v old at new next
-  unfolding numberedRow
+  pub turn-done : (old : List ℕ) {opened new : List ℕ} {next k : ℕ} → opened ≡ put_label old at (label_at ws v) →
+      Turn ws numbers v at opened new next k → row_end ws v ≤ k → RowCopied ws numbers v old at new next
+  unfolding numbered_row
   turn-done old {opened} {new} {next} {k} is t h =
-      let e : k ≡ rowEnd ws v = omega (arith, t.high) in
+      let e : k ≡ row_end ws v = omega (arith, t.high) in
       record {
         long = t.long ∙ ap length is ∙ length-put old at (label_at ws v);
-        next-is = t.next-is ∙ ap (λ (j : ℕ). at + header + (j - linksFrom ws v)) e;
+        next-is = t.next-is ∙ ap (λ (j : ℕ). at + header + (j - links_from ws v)) e;
         kept =
             same-trans old opened new
             (subst (λ (l : List ℕ). Same old l 0 at) (sym is) (put-before old at (label_at ws v) 0 at (omega arith))) t.kept;
         row =
             ap₂ {C = Row Label} (λ (x : Label) (ls : List (ℕ × ℕ)). (x, ls)) t.label
-            (t.links ∙ ap (λ (j : ℕ). map (byNumber numbers) (linksBetween ws (linksFrom ws v) j)) e);
+            (t.links ∙ ap (λ (j : ℕ). map (by_number numbers) (links_between ws (links_from ws v) j)) e);
       }
 
 -- All rows.
@@ -142,7 +142,7 @@ pub record Copying (ws numbers vs : List ℕ) (count room : ℕ) (new : List ℕ
   pub long : length new ≡ room
   pub at-is : at ≡ count + 2 + header * i + degrees ws (take i vs)
   pub built : Built new (count + 2) i at
-  pub rows : rows_from new 0 i ≡ numberedRows ws numbers (take i vs)
+  pub rows : rows_from new 0 i ≡ numbered_rows ws numbers (take i vs)
 
 module _ {ws numbers vs : List ℕ} {count : ℕ} where
   pub copying-start : (new : List ℕ) → Closed ws numbers vs count → count + 2 + header * count + degrees ws (take count vs) ≤ length new →
@@ -186,11 +186,11 @@ module _ {ws numbers vs : List ℕ} {count : ℕ} where
     pub copying-room : at + header + degree ws (get_or vs i 0) ≤ length new
     copying-room = omega (arith, copying-upto, c.fits, c.long)
 
-    along : numberedRows ws numbers (take (i + 1) vs) ≡ numberedRows ws numbers (take i vs) ++ (numberedRow ws numbers (get_or vs i 0) ∷ [])
+    along : numbered_rows ws numbers (take (i + 1) vs) ≡ numbered_rows ws numbers (take i vs) ++ (numbered_row ws numbers (get_or vs i 0) ∷ [])
     along =
-        ap (λ (n : ℕ). numberedRows ws numbers (take n vs)) (add-one i)
-        ∙ ap (numberedRows ws numbers) (take-suc vs i 0 inside)
-        ∙ map_snoc (numberedRow ws numbers) (take i vs) (get_or vs i 0)
+        ap (λ (n : ℕ). numbered_rows ws numbers (take n vs)) (add-one i)
+        ∙ ap (numbered_rows ws numbers) (take-suc vs i 0 inside)
+        ∙ map_snoc (numbered_row ws numbers) (take i vs) (get_or vs i 0)
 
     module _ {new' : List ℕ} {next : ℕ} (r : RowCopied ws numbers (get_or vs i 0) new at new' next) where
       pub next_low : next ≤ longest
@@ -237,12 +237,12 @@ module _ {ws numbers vs : List ℕ} {count : ℕ} where
             ∙ size-rows built count
             ∙ ap (rows_from new 0) (sym e)
             ∙ c.rows
-            ∙ ap (λ (n : ℕ). numberedRows ws numbers (take n vs)) e;
+            ∙ ap (λ (n : ℕ). numbered_rows ws numbers (take n vs)) e;
       }
 
 -- The rows of a written form are a graph's.
-module _ {ws : List ℕ} (sound : Sound ws) {rows : List (Row Label)} (form : canonical eqb (graphIn ws) ≡ written rows) where
-  narrow : (v w f : ℕ) → Reached (graphIn ws) v → (graphIn ws).link v f ≡ some w → f < 64
+module _ {ws : List ℕ} (sound : Sound ws) {rows : List (Row Label)} (form : canonical eqb (graph_in ws) ≡ written rows) where
+  narrow : (v w f : ℕ) → Reached (graph_in ws) v → (graph_in ws).link v f ≡ some w → f < 64
   narrow v w f r e = (link-known sound v f w (reached-inside sound v r) e).0
 
   form-orderly : Orderly rows
@@ -250,22 +250,22 @@ module _ {ws : List ℕ} (sound : Sound ws) {rows : List (Row Label)} (form : ca
       record {
         labels =
             λ r m.
-            let (v, reached, e) = form-labels eqb tells-eqb (graphIn ws) narrow rows form r m in
+            let (v, reached, e) = form-labels eqb tells-eqb (graph_in ws) narrow rows form r m in
             let h : v < size ws = reached-inside sound v reached in
             subst (Known 128) (sym (e ∙ label-at ws v h)) (sound.shaped.labelled v h);
-        ascends = form-ascending eqb tells-eqb (graphIn ws) narrow rows form;
-        features = form-features eqb tells-eqb (graphIn ws) narrow rows form;
+        ascends = form-ascending eqb tells-eqb (graph_in ws) narrow rows form;
+        features = form-features eqb tells-eqb (graph_in ws) narrow rows form;
       }
 
   form-aimed : Aimed (length rows) rows
-  form-aimed = record { targets = form-targets eqb tells-eqb (graphIn ws) narrow rows form }
+  form-aimed = record { targets = form-targets eqb tells-eqb (graph_in ws) narrow rows form }
 
   -- words that are built of them are sound
   built-form : {new : List ℕ} {base end : ℕ} → Built new base (size new) end → rows_of new ≡ rows → Sound new × (size new ≤ 255)
   built-form {new} b e =
       let n : size new ≡ length rows = sym (length-rows new 0 (size new)) ∙ ap length e in
-      let root : 0 < size new = omega (arith, form-nonempty eqb tells-eqb (graphIn ws) narrow rows form) in
-      let few : size new ≤ 255 = omega (arith, form-short eqb tells-eqb (graphIn ws) narrow rows form) in (
+      let root : 0 < size new = omega (arith, form-nonempty eqb tells-eqb (graph_in ws) narrow rows form) in
+      let few : size new ≤ 255 = omega (arith, form-short eqb tells-eqb (graph_in ws) narrow rows form) in (
         built-sound b refl (built-shaped b refl root (omega arith) (subst Orderly (sym e) form-orderly))
             (ap₂-aimed (sym n) (sym e) form-aimed),
         few,
@@ -278,14 +278,14 @@ module _ {ws : List ℕ} (sound : Sound ws) {rows : List (Row Label)} (form : ca
 -- What renumbering promises for each form.
 
 -- a form is not of two kinds
-nodes-written : (rows : List (Row Label)) → ◌≡◌ {A = Canonical Label} manyNodes (written rows) → ⊥
+nodes-written : (rows : List (Row Label)) → ◌≡◌ {A = Canonical Label} many_nodes (written rows) → ⊥
 nodes-written rows e = let z : ◌≡◌ {A = ℕ} 0 1 = cc in omega arith
 
-links-written : (rows : List (Row Label)) → ◌≡◌ {A = Canonical Label} manyLinks (written rows) → ⊥
+links-written : (rows : List (Row Label)) → ◌≡◌ {A = Canonical Label} many_links (written rows) → ⊥
 links-written rows e = let z : ◌≡◌ {A = ℕ} 0 1 = cc in omega arith
 
 module _ {form : Canonical Label} {new : List ℕ} where
-  pub renumbers-nodes : form ≡ manyNodes → Renumbers form false new
+  pub renumbers-nodes : form ≡ many_nodes → Renumbers form false new
   renumbers-nodes e =
       record {
         answers = λ rows q. absurd (nodes-written rows (sym e ∙ q));
@@ -296,7 +296,7 @@ module _ {form : Canonical Label} {new : List ℕ} where
         many-links = λ q. refl;
       }
 
-  pub renumbers-links : form ≡ manyLinks → Renumbers form false new
+  pub renumbers-links : form ≡ many_links → Renumbers form false new
   renumbers-links e =
       record {
         answers = λ rows q. absurd (links-written rows (sym e ∙ q));
@@ -332,9 +332,9 @@ module _ {ws : List ℕ} (sound : Sound ws) {count : ℕ} {numbers visited : Lis
       }
 
   -- once the rows of the nodes visited are copied, the graph is renumbered
-  pub renumbered : {new : List ℕ} → RowsCopied ws numbers visited count new → Renumbers (canonical eqb (graphIn ws)) true new
+  pub renumbered : {new : List ℕ} → RowsCopied ws numbers visited count new → Renumbers (canonical eqb (graph_in ws)) true new
   renumbered {new} r =
-      let form : canonical eqb (graphIn ws) ≡ written (rows_of new) =
+      let form : canonical eqb (graph_in ws) ≡ written (rows_of new) =
       written-rows sound numbered all few (omega arith) ∙ ap (λ (rows : List (Row Label)). written rows) (sym r.rows) in
       let held = built-form sound form (subst (λ (n : ℕ). Built new (count + 2) n r.end) (sym r.sized) r.built) refl in
       renumbers-rows form held.0 held.1

@@ -4,7 +4,7 @@
 
 ghost use Rattle.std.specs.Prelude.{◌+◌, ◌*◌, ◌≤◌, eqb, length, take};
 ghost use Rattle.graphs.specs.Number.{canonical};
-ghost use Rattle.layout.specs.Layout.{Sound, graphIn, header, longest};
+ghost use Rattle.layout.specs.Layout.{Sound, graph_in, header, longest};
 ghost use Rattle.encoder.specs.NumberedRows.{degree, degrees};
 ghost use Rattle.numbering.specs.Copies.{Closed, Numbered, Renumbers, RowCopied, RowsCopied};
 
@@ -66,7 +66,7 @@ fn copy_rows<'a>(
 pub fn renumber(graph: &[u16], new: &mut [u16]) -> bool
     requires sound { Sound graph.now }
     requires graph_in_bounds { length graph.now ≤ length new.old }
-    ensures { Renumbers (canonical eqb (graphIn graph.now)) result new.new }
+    ensures { Renumbers (canonical eqb (graph_in graph.now)) result new.new }
 {
     let mut numbers = [0u16; 510];
     let mut visited = [0u16; 255];

@@ -13,19 +13,19 @@ use Rattle.record.proofs.Loaded.{loaded-rules}
 use Rattle.record.proofs.Ordered.{order-test}
 use Rattle.subsume.specs.declared.Order.{Order}
 use Rattle.subsume.specs.declared.Order.TheVariants as order
-use Rattle.subsume.specs.Promise.{Orders, rowsBelow, isBelow}
+use Rattle.subsume.specs.Promise.{Orders, rows_below, is_below}
 use Rattle.orders.specs.Ordering.{compared, ordered}
 
 module _ (n : ℕ) (t : List ℕ) (s g : List (Row Label)) (rules : Rules n g) where
   -- The order's answer tells whether s is below g.
-  order-found : (answer : Order) (map : List ℕ) → Orders n t s g answer map → isBelow answer ≡ rowsBelow n t s g
+  order-found : (answer : Order) (map : List ℕ) → Orders n t s g answer map → is_below answer ≡ rows_below n t s g
   order-found order.Below map orders = sym ((order-test n t s g rules).1 (map_below (orders.yes-stands refl)))
-  order-found order.NotBelow map orders = sym (not-true-false (rowsBelow n t s g) (λ q. orders.no-stands refl ((order-test n t s g rules).0 q)))
+  order-found order.NotBelow map orders = sym (not-true-false (rows_below n t s g) (λ q. orders.no-stands refl ((order-test n t s g rules).0 q)))
 
 -- The order's answers in both directions give one of the four replies.
 pub compared-ordered : {n : ℕ} (t : List ℕ) {s g : List ℕ} → Loaded n s → Loaded n g → {lower upper : Order} {map map' : List ℕ} →
     Orders n t (rows_of s) (rows_of g) lower map → Orders n t (rows_of g) (rows_of s) upper map' →
-    compared (isBelow lower) (isBelow upper) ≡ ordered n t (rows_of s) (rows_of g)
+    compared (is_below lower) (is_below upper) ≡ ordered n t (rows_of s) (rows_of g)
 unfolding ordered
 compared-ordered {n} t {s} {g} specific general one other =
     ap₂ compared

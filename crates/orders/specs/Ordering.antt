@@ -2,7 +2,7 @@
 use Rattle.std.specs.Prelude.{Bool, true, false, List, ℕ}
 use Rattle.graphs.specs.Rows.{Row}
 use Rattle.lattice.specs.Label.{Label}
-use Rattle.subsume.specs.Promise.{rowsBelow}
+use Rattle.subsume.specs.Promise.{rows_below}
 use Rattle.replies.specs.declared.Reply.{Reply}
 use Rattle.replies.specs.declared.Reply.TheVariants.{Same, Under, Above, Neither}
 
@@ -16,4 +16,4 @@ compared false false = Neither
 
 -- Which of two graphs, given by their rows, is the broader.
 unfoldable pub ordered : ℕ → List ℕ → List (Row Label) → List (Row Label) → Reply
-ordered n t s g = compared (rowsBelow n t s g) (rowsBelow n t g s)
+ordered n t s g = compared (rows_below n t s g) (rows_below n t g s)

@@ -7,8 +7,8 @@ ghost use Rattle.layout.specs.Layout.{rows_of};
 ghost use Rattle.decode.specs.Answers.{Roomy};
 ghost use Rattle.record.specs.Read.{reading};
 ghost use Rattle.record.specs.Reads.{Loaded};
-ghost use Rattle.pairs.specs.Pair.{readBoth};
-ghost use Rattle.subsume.specs.Promise.{isBelow};
+ghost use Rattle.pairs.specs.Pair.{read_both};
+ghost use Rattle.subsume.specs.Promise.{is_below};
 ghost use Rattle.orders.specs.Ordering.{compared, ordered};
 
 use pairs::PairVerdict;
@@ -18,7 +18,7 @@ use subsume::Order;
 // The order of two records over an accepted table with n types.
 pub fn of_records(n: usize, table: &[u8], first: &[u8], second: &[u8]) -> Reply
     requires { n ≤ 64 }
-    ensures { result ≡ readBoth (λ q. q) (reading n first.now) (reading n second.now) (ordered n table.now) }
+    ensures { result ≡ read_both (λ q. q) (reading n first.now) (reading n second.now) (ordered n table.now) }
 {
     if pairs::are_short(first, second) {
         let mut s = [0u16; layout::SHORT];
@@ -40,7 +40,7 @@ fn order_in(
     g: &mut [u16],
 ) -> Reply
     requires { (n ≤ 64) × Roomy first.now s.old × Roomy second.now g.old }
-    ensures { result ≡ readBoth (λ q. q) (reading n first.now) (reading n second.now) (ordered n table.now) }
+    ensures { result ≡ read_both (λ q. q) (reading n first.now) (reading n second.now) (ordered n table.now) }
 {
     let verdict = pairs::read_both(n, table, &table[..0], first, second, s, g);
     match verdict {
@@ -63,7 +63,7 @@ pub fn of_graphs<'a>(table: &'a [u8], s: &'a [u16], g: &'a [u16]) -> Reply
 
 // The reply for two graphs, by whether the first is below the second, and whether the second is below the first.
 fn order_reply(below: Order, above: Order) -> Reply
-    ensures { result ≡ compared (isBelow below) (isBelow above) }
+    ensures { result ≡ compared (is_below below) (is_below above) }
 {
     match below {
         Order::Below => match above {

@@ -16,8 +16,8 @@ use Rattle.record.specs.declared.GraphFault.{GraphFault}
 use Rattle.record.specs.declared.reading.Verdict.{Verdict}
 use Rattle.record.specs.declared.reading.Verdict.TheVariants.{Accepted, Refused}
 use Rattle.record.specs.Read.{Reading, refused, accepted, reading}
-use Rattle.record.specs.Reads.{Holds, Loaded, ReadsAs, verdictOf}
-use Rattle.record.specs.Appropriate.{listAccepted, readingAppropriate}
+use Rattle.record.specs.Reads.{Holds, Loaded, ReadsAs, verdict_of}
+use Rattle.record.specs.Appropriate.{list_accepted, reading_appropriate}
 use Rattle.record.proofs.Accepted.{Rules, accepted-rules}
 use Rattle.record.proofs.Rewritten.{rules-read}
 use Rattle.record.proofs.Allowed.{accepted-appropriate, list-long}
@@ -27,22 +27,22 @@ use Rattle.replies.specs.declared.Reply.{Reply}
 use Rattle.replies.specs.declared.Reply.TheVariants.{Graph}
 use Rattle.pairs.specs.declared.PairVerdict.{PairVerdict}
 use Rattle.pairs.specs.declared.PairVerdict.TheVariants as pair
-use Rattle.pairs.specs.Pair.{Optional, ReadsBoth, ReadsBeside, readBoth, readingBeside, jointVerdict}
+use Rattle.pairs.specs.Pair.{Optional, ReadsBoth, ReadsBeside, read_both, reading_beside, joint_verdict}
 
 -- Reading with a list or without one.
 
 module _ (n : ℕ) (t list bytes : List ℕ) where
   -- An empty list stands for no list.
-  pub reading-plain : eqb (length list) 0 ≡ true → readingBeside n t list bytes ≡ reading n bytes
-  unfolding readingBeside
-  reading-plain e = ap (λ (b : Bool). cond b (reading n bytes) (readingAppropriate n t list bytes)) e
+  pub reading-plain : eqb (length list) 0 ≡ true → reading_beside n t list bytes ≡ reading n bytes
+  unfolding reading_beside
+  reading-plain e = ap (λ (b : Bool). cond b (reading n bytes) (reading_appropriate n t list bytes)) e
 
-  pub reading-listed : eqb (length list) 0 ≡ false → readingBeside n t list bytes ≡ readingAppropriate n t list bytes
-  unfolding readingBeside
-  reading-listed e = ap (λ (b : Bool). cond b (reading n bytes) (readingAppropriate n t list bytes)) e
+  pub reading-listed : eqb (length list) 0 ≡ false → reading_beside n t list bytes ≡ reading_appropriate n t list bytes
+  unfolding reading_beside
+  reading-listed e = ap (λ (b : Bool). cond b (reading n bytes) (reading_appropriate n t list bytes)) e
 
   -- A record that is accepted, with a list or without, is an accepted record.
-  pub accepted-beside : (rows : List (Row Label)) → readingBeside n t list bytes ≡ accepted rows → reading n bytes ≡ accepted rows
+  pub accepted-beside : (rows : List (Row Label)) → reading_beside n t list bytes ≡ accepted rows → reading n bytes ≡ accepted rows
   accepted-beside rows is = go (eqb (length list) 0) refl
     where
       go : (b : Bool) → eqb (length list) 0 ≡ b → reading n bytes ≡ accepted rows
@@ -50,15 +50,15 @@ module _ (n : ℕ) (t list bytes : List ℕ) where
       go false e = (accepted-appropriate n t list bytes rows (sym (reading-listed e) ∙ is)).0
 
 -- an accepted list is not empty
-pub accepted-long : (n : ℕ) (list : List ℕ) → listAccepted n list ≡ true → eqb (length list) 0 ≡ false
+pub accepted-long : (n : ℕ) (list : List ℕ) → list_accepted n list ≡ true → eqb (length list) 0 ≡ false
 accepted-long n list e = ap (λ (k : ℕ). eqb k 0) (list-long n list e)
 
 -- Reading with an empty list, and with a list that is not empty.
 module _ (n : ℕ) (t list bytes : List ℕ) {v : Verdict} {ws : List ℕ} where
-  pub tells-plain : length list ≡ 0 → ReadsAs n (reading n bytes) v ws → ReadsAs n (readingBeside n t list bytes) v ws
+  pub tells-plain : length list ≡ 0 → ReadsAs n (reading n bytes) v ws → ReadsAs n (reading_beside n t list bytes) v ws
   tells-plain none = subst (λ (o : Reading). ReadsAs n o v ws) (sym (reading-plain n t list bytes (eq-eqb (length list) 0 none)))
 
-  pub tells-listed : (length list ≡ 0 → ⊥) → ReadsAs n (readingAppropriate n t list bytes) v ws → ReadsAs n (readingBeside n t list bytes) v ws
+  pub tells-listed : (length list ≡ 0 → ⊥) → ReadsAs n (reading_appropriate n t list bytes) v ws → ReadsAs n (reading_beside n t list bytes) v ws
   tells-listed some = subst (λ (o : Reading). ReadsAs n o v ws) (sym (reading-listed n t list bytes (ne_eqb (length list) 0 some)))
 
 -- The words hold the rows that a reading accepts.
@@ -71,7 +71,7 @@ told-held {n} {ws = ws} e held =
     record { is = e ∙ ap accepted (sym held.rows_are); holds = subst (λ (rs : List (Row Label)). Holds n rs ws) (sym held.rows_are) held }
 
 -- Words that hold the rows that a reading accepts are `Loaded`.
-pub told-loaded : (n : ℕ) (t list bytes : List ℕ) {ws : List ℕ} → Told n (readingBeside n t list bytes) ws → Loaded n ws
+pub told-loaded : (n : ℕ) (t list bytes : List ℕ) {ws : List ℕ} → Told n (reading_beside n t list bytes) ws → Loaded n ws
 told-loaded n t list bytes {ws} told =
     let held = told.holds in
     record {
@@ -97,8 +97,8 @@ module _ {n : ℕ} {ws : List ℕ} {v : Verdict} where
 -- Two records.
 
 module _ {n : ℕ} {o p : Reading} {v : PairVerdict} {ws ws₂ : List ℕ} (reads : ReadsBoth n o p v ws ws₂) where
-  joint : {w : PairVerdict} {i j : Reading} → v ≡ w → o ≡ i → p ≡ j → jointVerdict (verdictOf i) (verdictOf j) ≡ w
-  joint e d c = sym (reads.verdict ∙ ap₂ (λ (i j : Reading). jointVerdict (verdictOf i) (verdictOf j)) d c) ∙ e
+  joint : {w : PairVerdict} {i j : Reading} → v ≡ w → o ≡ i → p ≡ j → joint_verdict (verdict_of i) (verdict_of j) ≡ w
+  joint e d c = sym (reads.verdict ∙ ap₂ (λ (i j : Reading). joint_verdict (verdict_of i) (verdict_of j)) d c) ∙ e
 
   pub both_told : v ≡ pair.Both → Told n o ws × Told n p ws₂
   both_told e = go o p refl refl
@@ -110,7 +110,7 @@ module _ {n : ℕ} {o p : Reading} {v : PairVerdict} {ws ws₂ : List ℕ} (read
 
   module _ {X : Type 0} (refuse : Reply → X) (next : List (Row Label) → List (Row Label) → X) where
     -- A refusal, and which graph is refused.
-    pub both-refused : (fault : GraphFault) (side : Side) → v ≡ pair.Refused fault side → readBoth refuse o p next ≡ refuse (Graph fault side)
+    pub both-refused : (fault : GraphFault) (side : Side) → v ≡ pair.Refused fault side → read_both refuse o p next ≡ refuse (Graph fault side)
     both-refused fault side e = go o p refl refl
       where
         same : {other : GraphFault} {which : Side} → ◌≡◌ {A = PairVerdict} (pair.Refused other which) (pair.Refused fault side) →
@@ -120,16 +120,16 @@ module _ {n : ℕ} {o p : Reading} {v : PairVerdict} {ws ws₂ : List ℕ} (read
             let s : which ≡ side = cc in
             ap₂ (λ x y. refuse (Graph x y)) f s
 
-        go : (i j : Reading) → o ≡ i → p ≡ j → readBoth refuse i j next ≡ refuse (Graph fault side)
+        go : (i j : Reading) → o ≡ i → p ≡ j → read_both refuse i j next ≡ refuse (Graph fault side)
         go (refused other) j d c = same (joint e d c)
         go (accepted rows) (refused other) d c = same (joint e d c)
         go (accepted rows) (accepted others) d c = let z : ◌≡◌ {A = ℕ} 0 1 = cc (joint e d c) in absurd (omega arith)
 
     -- Where both are accepted, the call goes on with the rows that the words hold.
-    pub both-next : v ≡ pair.Both → readBoth refuse o p next ≡ next (rows_of ws) (rows_of ws₂)
+    pub both-next : v ≡ pair.Both → read_both refuse o p next ≡ next (rows_of ws) (rows_of ws₂)
     both-next e =
         let (one, other) = both_told e in
-        ap₂ (λ (i j : Reading). readBoth refuse i j next) one.is other.is
+        ap₂ (λ (i j : Reading). read_both refuse i j next) one.is other.is
 
 -- What reading one record after the other gives.
 module _ {n : ℕ} {o : Reading} {v : Verdict} {ws : List ℕ} (one : ReadsAs n o v ws) where
@@ -137,25 +137,25 @@ module _ {n : ℕ} {o : Reading} {v : Verdict} {ws : List ℕ} (one : ReadsAs n 
       ReadsBoth n o p (pair.Refused fault First) ws ws₂
   reads-first-refused {p} e =
       record {
-        verdict = ap (λ (w : Verdict). jointVerdict w (verdictOf p)) (sym e ∙ one.verdict);
+        verdict = ap (λ (w : Verdict). joint_verdict w (verdict_of p)) (sym e ∙ one.verdict);
         one = one.graph;
         other = λ q. let z : ◌≡◌ {A = ℕ} 0 1 = cc q in absurd (omega arith);
       }
 
   module _ (passes : v ≡ Accepted) {p : Reading} {w : Verdict} {ws₂ : List ℕ} (two : ReadsAs n p w ws₂) where
-    reads_second : ReadsBoth n o p (jointVerdict Accepted w) ws ws₂
+    reads_second : ReadsBoth n o p (joint_verdict Accepted w) ws ws₂
     reads_second =
         record {
-          verdict = ap₂ jointVerdict (sym passes ∙ one.verdict) two.verdict;
+          verdict = ap₂ joint_verdict (sym passes ∙ one.verdict) two.verdict;
           one = one.graph;
           other = λ _. two.graph;
         }
 
     pub reads-second-refused : {fault : GraphFault} → w ≡ Refused fault → ReadsBoth n o p (pair.Refused fault Second) ws ws₂
-    reads-second-refused e = subst (λ (u : Verdict). ReadsBoth n o p (jointVerdict Accepted u) ws ws₂) e reads_second
+    reads-second-refused e = subst (λ (u : Verdict). ReadsBoth n o p (joint_verdict Accepted u) ws ws₂) e reads_second
 
     pub reads-accepted : w ≡ Accepted → ReadsBoth n o p pair.Both ws ws₂
-    reads-accepted e = subst (λ (u : Verdict). ReadsBoth n o p (jointVerdict Accepted u) ws ws₂) e reads_second
+    reads-accepted e = subst (λ (u : Verdict). ReadsBoth n o p (joint_verdict Accepted u) ws ws₂) e reads_second
 
 -- The words of both accepted records are `Loaded`.
 pub both-loaded : (n : ℕ) (t list a b : List ℕ) {v : PairVerdict} {ws ws₂ : List ℕ} → ReadsBeside n t list a b v ws ws₂ → v ≡ pair.Both →
@@ -172,7 +172,7 @@ pub reads_plain : (n : ℕ) (t list a b : List ℕ) {v : PairVerdict} {ws ws₂ 
 reads_plain n t list a b {v} {ws} {ws₂} none reads =
     let e = eq-eqb (length list) 0 none in
     subst (λ (o : Reading). ReadsBoth n o (reading n b) v ws ws₂) (reading-plain n t list a e)
-    (subst (λ (p : Reading). ReadsBoth n (readingBeside n t list a) p v ws ws₂) (reading-plain n t list b e) reads)
+    (subst (λ (p : Reading). ReadsBoth n (reading_beside n t list a) p v ws ws₂) (reading-plain n t list b e) reads)
 
 -- The rows that a reading accepts keep the rules.
 abbrev pub Ruled : ℕ → Reading → Type 0
@@ -180,7 +180,7 @@ Ruled n o = (rows : List (Row Label)) → o ≡ accepted rows → Rules n rows
 
 -- Two calls that agree on accepted records agree on all records.
 pub both-same : {n : ℕ} {o p : Reading} → Ruled n o → Ruled n p → {X : Type 0} (refuse : Reply → X) (next other : List (Row Label) → List (Row Label) → X) →
-    ((g h : List (Row Label)) → Rules n g → Rules n h → next g h ≡ other g h) → readBoth refuse o p next ≡ readBoth refuse o p other
+    ((g h : List (Row Label)) → Rules n g → Rules n h → next g h ≡ other g h) → read_both refuse o p next ≡ read_both refuse o p other
 both-same {o = refused fault} one two refuse next other same = refl
 both-same {o = accepted rows} {p = refused fault} one two refuse next other same = refl
 both-same {o = accepted rows} {p = accepted others} one two refuse next other same = same rows others (one rows refl) (two others refl)

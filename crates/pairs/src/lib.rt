@@ -5,7 +5,7 @@
 ghost use Rattle.std.specs.Prelude.{◌≡◌, true, ◌≤◌, length};
 ghost use Rattle.decode.specs.Answers.{Roomy};
 ghost use Rattle.record.specs.Reads.{ReadsAs};
-ghost use Rattle.pairs.specs.Pair.{Optional, ReadsBeside, readingBeside};
+ghost use Rattle.pairs.specs.Pair.{Optional, ReadsBeside, reading_beside};
 
 use record::GraphFault;
 use record::reading::Verdict;
@@ -31,7 +31,7 @@ pub fn are_short(first: &[u8], second: &[u8]) -> bool
 // Reads a record over a table with n types into lent words. On a refusal nothing is said of the words.
 pub fn read_one(n: usize, table: &[u8], list: &[u8], bytes: &[u8], graph: &mut [u16]) -> Verdict
     requires { (n ≤ 64) × Optional n list.now × Roomy bytes.now graph.old }
-    ensures { ReadsAs n (readingBeside n table.now list.now bytes.now) result graph.new }
+    ensures { ReadsAs n (reading_beside n table.now list.now bytes.now) result graph.new }
 {
     if list.len() == 0 {
         return record::reading::read(n, bytes, graph);

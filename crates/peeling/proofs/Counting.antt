@@ -11,10 +11,10 @@ use lib.Dec.{eqb, leb}
 use lib.ListN.{length, get_or, set, replicate, length-set, length-replicate, get_or-replicate}
 use lib.Seq.{get_or-set_same, get_or-set_other}
 use Rattle.graphs.proofs.Search.{true-false}
-use Rattle.layout.specs.Layout.{size, rowFrom, linksFrom, rowEnd, label_at, targetAt, Shaped}
+use Rattle.layout.specs.Layout.{size, row_from, links_from, row_end, label_at, target_at, Shaped}
 use Rattle.visits.specs.Colouring.{whites}
 use Rattle.visits.proofs.Colouring.{whites-bound}
-use Rattle.peeling.specs.Range.{labelInRange}
+use Rattle.peeling.specs.Range.{label_in_range}
 use Rattle.peeling.specs.Counts.{hit, among, into, entering, Counted, Within, RowCount, Count, Queued, RowDue, RowTaken}
 
 -- A place that counts.
@@ -48,14 +48,14 @@ module _ (ws : List ℕ) (w start : ℕ) where
   unfolding among
   among-zero = refl
 
-  among-suc : (k : ℕ) → among ws w start (suc k) ≡ among ws w start k + hit (leb start k) (targetAt ws k) w
+  among-suc : (k : ℕ) → among ws w start (suc k) ≡ among ws w start k + hit (leb start k) (target_at ws k) w
   unfolding among
   among-suc k = refl
 
-  among_next : (k : ℕ) → start ≤ k → among ws w start (k + 1) ≡ among ws w start k + hit true (targetAt ws k) w
+  among_next : (k : ℕ) → start ≤ k → among ws w start (k + 1) ≡ among ws w start k + hit true (target_at ws k) w
   among_next k h =
       ap (among ws w start) (add-one k) ∙ among-suc k
-      ∙ ap (λ (b : Bool). among ws w start k + hit b (targetAt ws k) w) (le-leb start k h)
+      ∙ ap (λ (b : Bool). among ws w start k + hit b (target_at ws k) w) (le-leb start k h)
 
   pub among_none : (k : ℕ) → k ≤ start → among ws w start k ≡ 0
   among_none zero h = among-zero
@@ -68,8 +68,8 @@ module _ (ws : List ℕ) (w start : ℕ) where
             arith,
             among-suc k,
             before,
-            ap (λ (b : Bool). hit b (targetAt ws k) w) e,
-            hit-false (targetAt ws k) w,
+            ap (λ (b : Bool). hit b (target_at ws k) w) e,
+            hit-false (target_at ws k) w,
           )
 
   among-rises : (n m : ℕ) → n ≤ m → among ws w start n ≤ among ws w start m
@@ -86,34 +86,34 @@ module _ (ws : List ℕ) (w start : ℕ) where
   among-bound (suc k) h = go (dec_le start k) (among-bound k)
     where
       go : Dec (start ≤ k) → (start ≤ k → start + among ws w start k ≤ k) → start + among ws w start (suc k) ≤ suc k
-      go (yes i) before = omega (arith, before i, among-suc k, hit-small (leb start k) (targetAt ws k) w)
+      go (yes i) before = omega (arith, before i, among-suc k, hit-small (leb start k) (target_at ws k) w)
       go (no i) before = omega (arith, among_none (suc k) (omega arith))
 
   -- a link that is counted has a place
-  pub among-source : (n : ℕ) → 0 < among ws w start n → (k : ℕ) × (start ≤ k) × (k < n) × (targetAt ws k ≡ w)
+  pub among-source : (n : ℕ) → 0 < among ws w start n → (k : ℕ) × (start ≤ k) × (k < n) × (target_at ws k ≡ w)
   among-source zero h = absurd (omega (arith, among-zero))
-  among-source (suc n) h = go (ℕ_discrete (targetAt ws n) w) (leb start n) refl (among-source n)
+  among-source (suc n) h = go (ℕ_discrete (target_at ws n) w) (leb start n) refl (among-source n)
     where
-      go : Dec (targetAt ws n ≡ w) → (b : Bool) → leb start n ≡ b →
-          (0 < among ws w start n → (k : ℕ) × (start ≤ k) × (k < n) × (targetAt ws k ≡ w)) →
-          (k : ℕ) × (start ≤ k) × (k < suc n) × (targetAt ws k ≡ w)
+      go : Dec (target_at ws n ≡ w) → (b : Bool) → leb start n ≡ b →
+          (0 < among ws w start n → (k : ℕ) × (start ≤ k) × (k < n) × (target_at ws k ≡ w)) →
+          (k : ℕ) × (start ≤ k) × (k < suc n) × (target_at ws k ≡ w)
       go (yes e) true q before = (n, leb-true start n q, omega arith, e)
       go (yes e) false q before =
-          let (k, low, high, is) = before (omega (arith, among-suc n, ap (λ (b : Bool). hit b (targetAt ws n) w) q, hit-false (targetAt ws n) w)) in
+          let (k, low, high, is) = before (omega (arith, among-suc n, ap (λ (b : Bool). hit b (target_at ws n) w) q, hit-false (target_at ws n) w)) in
           (k, low, omega arith, is)
       go (no d) b q before =
-          let (k, low, high, is) = before (omega (arith, among-suc n, hit_other (leb start n) (targetAt ws n) w d)) in
+          let (k, low, high, is) = before (omega (arith, among-suc n, hit_other (leb start n) (target_at ws n) w d)) in
           (k, low, omega arith, is)
 
   -- a place is counted
-  pub among-target : (n k : ℕ) → start ≤ k → k < n → targetAt ws k ≡ w → 0 < among ws w start n
+  pub among-target : (n k : ℕ) → start ≤ k → k < n → target_at ws k ≡ w → 0 < among ws w start n
   among-target n k low high is =
       omega (
         arith,
         among-rises (suc k) n (omega arith),
         among-suc k,
-        hit_same (targetAt ws k) w is,
-        ap (λ (b : Bool). hit b (targetAt ws k) w) (le-leb start k low),
+        hit_same (target_at ws k) w is,
+        ap (λ (b : Bool). hit b (target_at ws k) w) (le-leb start k low),
       )
 
 -- The links of the nodes that count.
@@ -209,7 +209,7 @@ module _ (ws : List ℕ) (w : ℕ) where
 -- Counting all links.
 
 -- the links of the nodes before v stand before the row of v
-entering-before : {ws : List ℕ} → Shaped ws → (w v : ℕ) → v ≤ size ws → entering (λ _. true) ws w v ≤ rowFrom ws v
+entering-before : {ws : List ℕ} → Shaped ws → (w v : ℕ) → v ≤ size ws → entering (λ _. true) ws w v ≤ row_from ws v
 entering-before {ws} shaped w zero h = omega (arith, entering-none ws w (λ _. true))
 entering-before {ws} shaped w (suc v) h =
     let e : v + 2 ≡ suc v + 1 = omega arith in
@@ -218,7 +218,7 @@ entering-before {ws} shaped w (suc v) h =
       entering-suc ws w (λ _. true) v,
       entering-before shaped w v (omega arith),
       (shaped.node v h).begun,
-      among-bound ws w (linksFrom ws v) (rowEnd ws v) (shaped.node v h).begun,
+      among-bound ws w (links_from ws v) (row_end ws v) (shaped.node v h).begun,
       ap (λ (k : ℕ). get_or ws k 0) e,
     )
 
@@ -236,17 +236,17 @@ pub record Counting (ws : List ℕ) (v : ℕ) (incoming : List ℕ) (k : ℕ) : 
   pub shaped : Shaped ws
   pub small : size ws ≤ 255
   pub inside : v < size ws
-  pub low : linksFrom ws v ≤ k
-  pub high : k ≤ rowEnd ws v
-  pub within : (i : ℕ) → linksFrom ws v ≤ i → i < k → targetAt ws i < size ws
+  pub low : links_from ws v ≤ k
+  pub high : k ≤ row_end ws v
+  pub within : (i : ℕ) → links_from ws v ≤ i → i < k → target_at ws i < size ws
   pub long : length incoming ≡ 255
-  pub counts : (w : ℕ) → w < 255 → get_or incoming w 0 ≡ entering (λ _. true) ws w v + among ws w (linksFrom ws v) k
+  pub counts : (w : ℕ) → w < 255 → get_or incoming w 0 ≡ entering (λ _. true) ws w v + among ws w (links_from ws v) k
 
 module _ {ws incoming : List ℕ} {v : ℕ} (c : Counted ws v incoming) (inside : v < size ws) where
   pub row_listed : v + 2 < length ws
   row_listed = (c.shaped.node v inside).listed
 
-  pub counting-start : Counting ws v incoming (linksFrom ws v)
+  pub counting-start : Counting ws v incoming (links_from ws v)
   counting-start =
       record {
         shaped = c.shaped;
@@ -256,11 +256,11 @@ module _ {ws incoming : List ℕ} {v : ℕ} (c : Counted ws v incoming) (inside 
         high = (c.shaped.node v inside).begun;
         within = λ i low high. absurd (omega arith);
         long = c.long;
-        counts = λ w h. omega (arith, c.counts w h, among_none ws w (linksFrom ws v) (linksFrom ws v) (omega arith));
+        counts = λ w h. omega (arith, c.counts w h, among_none ws w (links_from ws v) (links_from ws v) (omega arith));
       }
 
 module _ {ws incoming : List ℕ} {v k : ℕ} (c : Counting ws v incoming k) where
-  counted-row : k ≡ rowEnd ws v → Counted ws (v + 1) incoming
+  counted-row : k ≡ row_end ws v → Counted ws (v + 1) incoming
   counted-row last =
       record {
         shaped = c.shaped;
@@ -270,38 +270,38 @@ module _ {ws incoming : List ℕ} {v k : ℕ} (c : Counting ws v incoming k) whe
             omega (
               arith,
               c.counts w i,
-              ap (among ws w (linksFrom ws v)) last,
+              ap (among ws w (links_from ws v)) last,
               entering-suc ws w (λ _. true) v,
               ap (entering (λ _. true) ws w) (add-one v),
             );
       }
 
-  pub counting-done : rowEnd ws v ≤ k → RowCount ws v true incoming
+  pub counting-done : row_end ws v ≤ k → RowCount ws v true incoming
   counting-done h =
       record {
         yes-stands = λ e. (λ i low high. c.within i low (omega arith), counted-row (omega (arith, c.high)));
         no-stands = λ e. true-false refl e;
       }
 
-  module _ (more : k < rowEnd ws v) where
+  module _ (more : k < row_end ws v) where
     pub counting-place : k < length ws
     counting-place = omega (arith, (c.shaped.node v c.inside).ended)
 
     -- the target is no node
-    pub counting-out : size ws ≤ targetAt ws k → RowCount ws v false incoming
+    pub counting-out : size ws ≤ target_at ws k → RowCount ws v false incoming
     counting-out out = record { yes-stands = λ e. true-false e refl; no-stands = λ e all. omega (arith, all k c.low more) }
 
     -- there is room to count one more
-    pub counting-room : targetAt ws k < size ws → get_or incoming (targetAt ws k) 0 < rowEnd ws v
+    pub counting-room : target_at ws k < size ws → get_or incoming (target_at ws k) 0 < row_end ws v
     counting-room inside =
         omega (
           arith,
-          c.counts (targetAt ws k) (omega (arith, c.small)),
-          entering-before c.shaped (targetAt ws k) v (omega (arith, c.inside)),
-          among-bound ws (targetAt ws k) (linksFrom ws v) k c.low,
+          c.counts (target_at ws k) (omega (arith, c.small)),
+          entering-before c.shaped (target_at ws k) v (omega (arith, c.inside)),
+          among-bound ws (target_at ws k) (links_from ws v) k c.low,
         )
 
-    pub counting-next : targetAt ws k < size ws → Counting ws v (set incoming (targetAt ws k) (get_or incoming (targetAt ws k) 0 + 1)) (k + 1)
+    pub counting-next : target_at ws k < size ws → Counting ws v (set incoming (target_at ws k) (get_or incoming (target_at ws k) 0 + 1)) (k + 1)
     counting-next here =
         record {
           shaped = c.shaped;
@@ -310,39 +310,39 @@ module _ {ws incoming : List ℕ} {v k : ℕ} (c : Counting ws v incoming k) whe
           low = omega (arith, c.low);
           high = omega arith;
           within = λ i low high. passed i (ℕ_discrete i k) low high;
-          long = length-set incoming (targetAt ws k) (get_or incoming (targetAt ws k) 0 + 1) ∙ c.long;
-          counts = λ w h. go w h (ℕ_discrete w (targetAt ws k));
+          long = length-set incoming (target_at ws k) (get_or incoming (target_at ws k) 0 + 1) ∙ c.long;
+          counts = λ w h. go w h (ℕ_discrete w (target_at ws k));
         }
       where
-        passed : (i : ℕ) → Dec (i ≡ k) → linksFrom ws v ≤ i → i < k + 1 → targetAt ws i < size ws
-        passed i (yes e) low high = subst (λ (j : ℕ). targetAt ws j < size ws) (sym e) here
+        passed : (i : ℕ) → Dec (i ≡ k) → links_from ws v ≤ i → i < k + 1 → target_at ws i < size ws
+        passed i (yes e) low high = subst (λ (j : ℕ). target_at ws j < size ws) (sym e) here
         passed i (no d) low high = c.within i low (omega arith)
 
-        go : (w : ℕ) → w < 255 → Dec (w ≡ targetAt ws k) →
-            get_or (set incoming (targetAt ws k) (get_or incoming (targetAt ws k) 0 + 1)) w 0
-            ≡ entering (λ _. true) ws w v + among ws w (linksFrom ws v) (k + 1)
+        go : (w : ℕ) → w < 255 → Dec (w ≡ target_at ws k) →
+            get_or (set incoming (target_at ws k) (get_or incoming (target_at ws k) 0 + 1)) w 0
+            ≡ entering (λ _. true) ws w v + among ws w (links_from ws v) (k + 1)
         go w h (yes e) =
             omega (
               arith,
-              ap (λ (u : ℕ). get_or (set incoming (targetAt ws k) (get_or incoming (targetAt ws k) 0 + 1)) u 0) e,
-              get_or-set_same incoming (targetAt ws k) (get_or incoming (targetAt ws k) 0 + 1) 0 (omega (arith, c.long, c.small)),
+              ap (λ (u : ℕ). get_or (set incoming (target_at ws k) (get_or incoming (target_at ws k) 0 + 1)) u 0) e,
+              get_or-set_same incoming (target_at ws k) (get_or incoming (target_at ws k) 0 + 1) 0 (omega (arith, c.long, c.small)),
               ap (λ (u : ℕ). get_or incoming u 0) e,
               c.counts w h,
-              among_next ws w (linksFrom ws v) k c.low,
-              hit_same (targetAt ws k) w (sym e),
+              among_next ws w (links_from ws v) k c.low,
+              hit_same (target_at ws k) w (sym e),
             )
         go w h (no d) =
             omega (
               arith,
-              get_or-set_other incoming (targetAt ws k) w (get_or incoming (targetAt ws k) 0 + 1) 0 d,
+              get_or-set_other incoming (target_at ws k) w (get_or incoming (target_at ws k) 0 + 1) 0 d,
               c.counts w h,
-              among_next ws w (linksFrom ws v) k c.low,
-              hit_other true (targetAt ws k) w (λ q. d (sym q)),
+              among_next ws w (links_from ws v) k c.low,
+              hit_other true (target_at ws k) w (λ q. d (sym q)),
             )
 
 -- The first v rows are in range and their links counted.
 pub record Passed (n : ℕ) (ws : List ℕ) (v : ℕ) (incoming : List ℕ) : Type 0 where
-  pub labels : (u : ℕ) → u < v → labelInRange n (label_at ws u) ≡ true
+  pub labels : (u : ℕ) → u < v → label_in_range n (label_at ws u) ≡ true
   pub targets : (u : ℕ) → u < v → Within ws u
   pub counted : Counted ws v incoming
 
@@ -350,7 +350,7 @@ pub passed_none : (n : ℕ) {ws incoming : List ℕ} → Counted ws 0 incoming �
 passed_none n c = record { labels = λ u h. absurd (omega arith); targets = λ u h. absurd (omega arith); counted = c }
 
 module _ {n : ℕ} {ws : List ℕ} {v : ℕ} where
-  pub passed-more : {answer : Bool} {before incoming : List ℕ} → Passed n ws v before → labelInRange n (label_at ws v) ≡ true →
+  pub passed-more : {answer : Bool} {before incoming : List ℕ} → Passed n ws v before → label_in_range n (label_at ws v) ≡ true →
       RowCount ws v answer incoming → answer ≡ true → Passed n ws (v + 1) incoming
   passed-more p ranged row yes-row =
       record {
@@ -359,8 +359,8 @@ module _ {n : ℕ} {ws : List ℕ} {v : ℕ} where
         counted = (row.yes-stands yes-row).1;
       }
     where
-      label : (u : ℕ) → Dec (u ≡ v) → u < v + 1 → labelInRange n (label_at ws u) ≡ true
-      label u (yes e) h = subst (λ (w : ℕ). labelInRange n (label_at ws w) ≡ true) (sym e) ranged
+      label : (u : ℕ) → Dec (u ≡ v) → u < v + 1 → label_in_range n (label_at ws u) ≡ true
+      label u (yes e) h = subst (λ (w : ℕ). label_in_range n (label_at ws w) ≡ true) (sym e) ranged
       label u (no d) h = p.labels u (omega arith)
 
       target : (u : ℕ) → Dec (u ≡ v) → u < v + 1 → Within ws u
@@ -378,7 +378,7 @@ module _ {n : ℕ} {ws : List ℕ} {v : ℕ} where
       }
 
   -- a row is out of range
-  pub label-out : {incoming : List ℕ} → v < size ws → labelInRange n (label_at ws v) ≡ false → Count n ws false incoming
+  pub label-out : {incoming : List ℕ} → v < size ws → label_in_range n (label_at ws v) ≡ false → Count n ws false incoming
   label-out h out = record { yes-stands = λ e. true-false e refl; no-stands = λ e r. true-false (r.labels v h) out }
 
   pub target-out : {answer : Bool} {incoming : List ℕ} → v < size ws → RowCount ws v answer incoming → answer ≡ false → Count n ws false incoming
@@ -533,15 +533,15 @@ queued-done {v} {nodes} {count} {incoming} {queue} q low high = subst (λ (n : �
 -- The links of v before place k are taken away.
 pub record Taking (ws : List ℕ) (v : ℕ) (incoming₀ queue₀ : List ℕ) (queued : ℕ) (incoming queue : List ℕ) (count k : ℕ) : Type 0 where
   pub due : RowDue ws v incoming₀ queue₀ queued
-  pub low : linksFrom ws v ≤ k
-  pub high : k ≤ rowEnd ws v
+  pub low : links_from ws v ≤ k
+  pub high : k ≤ row_end ws v
   pub taken : RowTaken ws v k incoming₀ queue₀ queued incoming queue count
 
 module _ {ws incoming queue : List ℕ} {v queued : ℕ} (d : RowDue ws v incoming queue queued) where
   pub due-listed : v + 2 < length ws
   due-listed = (d.sound.shaped.node v d.inside).listed
 
-  pub row-start : Taking ws v incoming queue queued incoming queue queued (linksFrom ws v)
+  pub row-start : Taking ws v incoming queue queued incoming queue queued (links_from ws v)
   row-start =
       record {
         due = d;
@@ -550,19 +550,19 @@ module _ {ws incoming queue : List ℕ} {v queued : ℕ} (d : RowDue ws v incomi
         taken = record {
           long = d.long;
           listing = d.listing;
-          taken = λ w h. omega (arith, among_none ws w (linksFrom ws v) (linksFrom ws v) (omega arith));
+          taken = λ w h. omega (arith, among_none ws w (links_from ws v) (links_from ws v) (omega arith));
           more = omega arith;
           same = λ i h. refl;
         };
       }
 
 pub row_done : {ws incoming₀ queue₀ incoming queue : List ℕ} {v queued count k : ℕ} → Taking ws v incoming₀ queue₀ queued incoming queue count k →
-    rowEnd ws v ≤ k → RowTaken ws v (rowEnd ws v) incoming₀ queue₀ queued incoming queue count
+    row_end ws v ≤ k → RowTaken ws v (row_end ws v) incoming₀ queue₀ queued incoming queue count
 row_done {ws} {incoming₀} {queue₀} {incoming} {queue} {v} {queued} {count} {k} p h =
     subst (λ (n : ℕ). RowTaken ws v n incoming₀ queue₀ queued incoming queue count) (omega (arith, p.high)) p.taken
 
 module _ {ws incoming₀ queue₀ incoming queue : List ℕ} {v queued count k : ℕ} (p : Taking ws v incoming₀ queue₀ queued incoming queue count k)
-    (more : k < rowEnd ws v) where
+    (more : k < row_end ws v) where
   d : RowDue ws v incoming₀ queue₀ queued
   d = p.due
 
@@ -570,21 +570,21 @@ module _ {ws incoming₀ queue₀ incoming queue : List ℕ} {v queued count k :
   t = p.taken
 
   abbrev w : ℕ
-  w = targetAt ws k
+  w = target_at ws k
 
   pub row-place : k < length ws
   row-place = omega (arith, (d.sound.shaped.node v d.inside).ended)
 
-  pub row_inside : w < size ws
-  row_inside = d.sound.targets v k d.inside p.low more
+  pub row_inside_lem : w < size ws
+  row_inside_lem = d.sound.targets v k d.inside p.low more
 
-  one_more : among ws w (linksFrom ws v) (k + 1) ≡ among ws w (linksFrom ws v) k + 1
-  one_more = omega (arith, among_next ws w (linksFrom ws v) k p.low, hit_same w w refl)
+  one_more : among ws w (links_from ws v) (k + 1) ≡ among ws w (links_from ws v) k + 1
+  one_more = omega (arith, among_next ws w (links_from ws v) k p.low, hit_same w w refl)
 
   -- the target is still entered
   pub still-entered : 0 < get_or incoming w 0
   still-entered =
-      omega (arith, t.taken w row_inside, d.due w row_inside, one_more, among-rises ws w (linksFrom ws v) (k + 1) (rowEnd ws v) (omega arith))
+      omega (arith, t.taken w row_inside_lem, d.due w row_inside_lem, one_more, among-rises ws w (links_from ws v) (k + 1) (row_end ws v) (omega arith))
 
   -- the target is not queued
   not-queued : (i : ℕ) → i < count → get_or queue i 0 ≡ w → ⊥
@@ -592,15 +592,15 @@ module _ {ws incoming₀ queue₀ incoming queue : List ℕ} {v queued count k :
 
   module _ (left : ℕ) (one_less : suc left ≡ get_or incoming w 0) where
     at : get_or (set incoming w left) w 0 ≡ left
-    at = get_or-set_same incoming w left 0 (omega (arith, t.long, d.small, row_inside))
+    at = get_or-set_same incoming w left 0 (omega (arith, t.long, d.small, row_inside_lem))
 
     other : (u : ℕ) → (u ≡ w → ⊥) → get_or (set incoming w left) u 0 ≡ get_or incoming u 0
     other u n = get_or-set_other incoming w u left 0 n
 
-    taken_next : (u : ℕ) → u < size ws → get_or (set incoming w left) u 0 + among ws u (linksFrom ws v) (k + 1) ≡ get_or incoming₀ u 0
+    taken_next : (u : ℕ) → u < size ws → get_or (set incoming w left) u 0 + among ws u (links_from ws v) (k + 1) ≡ get_or incoming₀ u 0
     taken_next u h = go (ℕ_discrete u w)
       where
-        go : Dec (u ≡ w) → get_or (set incoming w left) u 0 + among ws u (linksFrom ws v) (k + 1) ≡ get_or incoming₀ u 0
+        go : Dec (u ≡ w) → get_or (set incoming w left) u 0 + among ws u (links_from ws v) (k + 1) ≡ get_or incoming₀ u 0
         go (yes e) =
             omega (
               arith,
@@ -608,15 +608,15 @@ module _ {ws incoming₀ queue₀ incoming queue : List ℕ} {v queued count k :
               at,
               one_less,
               one_more,
-              ap (λ (x : ℕ). among ws x (linksFrom ws v) (k + 1)) e,
-              t.taken w row_inside,
+              ap (λ (x : ℕ). among ws x (links_from ws v) (k + 1)) e,
+              t.taken w row_inside_lem,
               ap (λ (x : ℕ). get_or incoming₀ x 0) e,
             )
         go (no n) =
             omega (
               arith,
               other u n,
-              among_next ws u (linksFrom ws v) k p.low,
+              among_next ws u (links_from ws v) k p.low,
               hit_other true w u (λ e. n (sym e)),
               t.taken u h,
             )
@@ -653,7 +653,7 @@ module _ {ws incoming₀ queue₀ incoming queue : List ℕ} {v queued count k :
         record {
           long = length-set incoming w left ∙ t.long;
           listing =
-              queued-join queue w t.listing.roomy room full row_inside (at ∙ none) t.listing.listed clear_next
+              queued-join queue w t.listing.roomy room full row_inside_lem (at ∙ none) t.listing.listed clear_next
               (λ u h n z. t.listing.found u h (sym (other u n) ∙ z)) not-queued t.listing.distinct;
           taken = taken_next;
           more = omega (arith, t.more);
@@ -666,7 +666,7 @@ module _ {ws incoming₀ queue₀ incoming queue : List ℕ} {v queued count k :
               arith,
               t.listing.filled,
               ap (λ (a : ℕ). whites (size ws) (set incoming w a)) none,
-              whites-join (size ws) incoming w row_inside still-entered,
+              whites-join (size ws) incoming w row_inside_lem still-entered,
             )
 
         room : count < 255
@@ -682,7 +682,7 @@ module _ {ws incoming₀ queue₀ incoming queue : List ℕ} {v queued count k :
         arith,
         t.listing.filled,
         ap (λ (a : ℕ). whites (size ws) (set incoming w a)) none,
-        whites-join (size ws) incoming w row_inside still-entered,
+        whites-join (size ws) incoming w row_inside_lem still-entered,
         whites-bound (size ws) (set incoming w 0),
         d.small,
       )

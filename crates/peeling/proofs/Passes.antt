@@ -16,7 +16,7 @@ use Rattle.graphs.specs.Number.{member}
 use Rattle.graphs.specs.Large.{Distinct}
 use Rattle.graphs.proofs.Lists.{from_member, length_from, distinct-bound, tells-eqb, member-true, member-false}
 use Rattle.graphs.proofs.Search.{true-false}
-use Rattle.layout.specs.Layout.{size, linksFrom, rowEnd, Sound}
+use Rattle.layout.specs.Layout.{size, links_from, row_end, Sound}
 use Rattle.visits.specs.Walks.{Leads, Reaches, one, more}
 use Rattle.visits.proofs.Colouring.{whites-bound}
 use Rattle.peeling.specs.declared.Shape.TheVariants.{Cyclic, Apart, Rooted}
@@ -59,7 +59,7 @@ module _ {ws : List ℕ} where
   link-counted {v} {w} l counts c =
       omega (
         arith,
-        among-target ws w (linksFrom ws v) (rowEnd ws v) l.place l.low l.high l.target_is,
+        among-target ws w (links_from ws v) (row_end ws v) l.place l.low l.high l.target_is,
         entering-target ws w counts (size ws) v l.inside c,
       )
 
@@ -71,7 +71,7 @@ module _ {ws : List ℕ} where
   link-in : (counts : ℕ → Bool) (w : ℕ) → 0 < entering counts ws w (size ws) → (v : ℕ) × Leads ws v w × (counts v ≡ true)
   link-in counts w h =
       let (v, inside, c, some) = entering-source ws w counts (size ws) h in
-      let (k, low, high, is) = among-source ws w (linksFrom ws v) (rowEnd ws v) some in
+      let (k, low, high, is) = among-source ws w (links_from ws v) (row_end ws v) some in
       (v, record { inside = inside; place = k; low = low; high = high; target_is = is }, c)
 
   pub peeling-start : {sources : ℕ} {incoming queue : List ℕ} → Sound ws → Counted ws (size ws) incoming → Queued (size ws) incoming queue sources →
@@ -132,7 +132,7 @@ module _ {ws : List ℕ} where
             due = λ w h. omega (arith, split w, p.counted w h);
           }
 
-      module _ {later line : List ℕ} {after : ℕ} (t : RowTaken ws v (rowEnd ws v) incoming queue count later line after) where
+      module _ {later line : List ℕ} {after : ℕ} (t : RowTaken ws v (row_end ws v) incoming queue count later line after) where
         counted_next : (w : ℕ) → w < size ws → get_or later w 0 ≡ entering (without v p.counts) ws w (size ws)
         counted_next w h = omega (arith, t.taken w h, p.counted w h, split w)
 

@@ -9,15 +9,15 @@ use lib.Dec.{eqb, leb}
 use Rattle.graphs.proofs.Search.{both_true, true-both, same_test, not-true-false}
 use Rattle.lattice.specs.Label.{Label}
 use Rattle.lattice.specs.Labels.{Known}
-use Rattle.peeling.specs.Range.{labelInRange}
+use Rattle.peeling.specs.Range.{label_in_range}
 
 -- The type is not "0 or at least n", the levels are "0 to 255", and the lowest is not "above the highest".
 abbrev pub LabelInRange : ℕ → Label → Type 0
 LabelInRange n l = (0 < l.type) × Known n l × (l.lowest ≤ l.highest)
 
 module _ (n : ℕ) (l : Label) where
-  pub label-in-range : (labelInRange n l ≡ true) ↔ LabelInRange n l
-  unfolding labelInRange
+  pub label-in-range : (label_in_range n l ≡ true) ↔ LabelInRange n l
+  unfolding label_in_range
   label-in-range = (
     λ e.
         let (typed, small) = both_true (some-type && below && ordered) (leb l.highest 255) e in
@@ -46,15 +46,15 @@ module _ (n : ℕ) (l : Label) where
 
   -- The test, step by step.
 
-  pub zero-out : l.type ≡ 0 → false ≡ labelInRange n l
-  zero-out e = sym (not-true-false (labelInRange n l) (λ h. omega (arith, (label-in-range.0 h).0)))
+  pub zero-out : l.type ≡ 0 → false ≡ label_in_range n l
+  zero-out e = sym (not-true-false (label_in_range n l) (λ h. omega (arith, (label-in-range.0 h).0)))
 
-  pub over-out : n ≤ l.type → false ≡ labelInRange n l
-  over-out h = sym (not-true-false (labelInRange n l) (λ q. omega (arith, (label-in-range.0 q).1.type)))
+  pub over-out : n ≤ l.type → false ≡ label_in_range n l
+  over-out h = sym (not-true-false (label_in_range n l) (λ q. omega (arith, (label-in-range.0 q).1.type)))
 
-  pub levels-decide : (l.type ≡ 0 → ⊥) → l.type < n → l.highest ≤ 255 → leb l.lowest l.highest ≡ labelInRange n l
+  pub levels-decide : (l.type ≡ 0 → ⊥) → l.type < n → l.highest ≤ 255 → leb l.lowest l.highest ≡ label_in_range n l
   levels-decide nonzero below top =
-      same_test (leb l.lowest l.highest) (labelInRange n l)
+      same_test (leb l.lowest l.highest) (label_in_range n l)
       (λ e.
       let up : l.lowest ≤ l.highest = leb-true l.lowest l.highest e in
       label-in-range.1 (omega arith, record { type = below; lowest = omega arith; highest = top }, up))

@@ -1,10 +1,10 @@
 -- This file states the contracts of the functions that count the links of a graph and take its sources away. A source is a node that no
 -- link enters. `incoming` counts for each node the links that still enter it, and `queue` lists the nodes that no counted link enters.
 use Rattle.std.specs.Prelude.{◌≡◌, Bool, true, false, cond, List, ℕ, zero, suc, ◌+◌, ◌≤◌, ◌<◌, eqb, leb, length, get_or}
-use Rattle.layout.specs.Layout.{size, linksFrom, rowEnd, label_at, targetAt, Shaped, Sound}
+use Rattle.layout.specs.Layout.{size, links_from, row_end, label_at, target_at, Shaped, Sound}
 use Rattle.visits.specs.Colouring.{whites}
 use Rattle.visits.specs.Walks.{Leads, Reaches}
-use Rattle.peeling.specs.Range.{labelInRange}
+use Rattle.peeling.specs.Range.{label_in_range}
 use Rattle.peeling.specs.declared.Shape.{Shape}
 use Rattle.peeling.specs.declared.Shape.TheVariants.{Cyclic, Apart, Rooted}
 
@@ -15,11 +15,11 @@ hit counts target w = cond counts (cond (eqb target w) 1 0) 0
 -- how many of the links that stand from place `start` up to a place lead to w
 unfoldable pub among : List ℕ → ℕ → ℕ → ℕ → ℕ
 among ws w start zero = 0
-among ws w start (suc k) = among ws w start k + hit (leb start k) (targetAt ws k) w
+among ws w start (suc k) = among ws w start k + hit (leb start k) (target_at ws k) w
 
 -- how many of the links of node v lead to w
 abbrev pub into : List ℕ → ℕ → ℕ → ℕ
-into ws w v = among ws w (linksFrom ws v) (rowEnd ws v)
+into ws w v = among ws w (links_from ws v) (row_end ws v)
 
 -- how many links lead to w from those of the first nodes that count
 unfoldable pub entering : (ℕ → Bool) → List ℕ → ℕ → ℕ → ℕ
@@ -35,7 +35,7 @@ pub record Counted (ws : List ℕ) (v : ℕ) (incoming : List ℕ) : Type 0 wher
 
 -- every target of node v is a node
 abbrev pub Within : List ℕ → ℕ → Type 0
-Within ws v = (k : ℕ) → linksFrom ws v ≤ k → k < rowEnd ws v → targetAt ws k < size ws
+Within ws v = (k : ℕ) → links_from ws v ≤ k → k < row_end ws v → target_at ws k < size ws
 
 -- An answer to whether every target of node v is a node. After a yes, `incoming` counts the links of v too.
 pub record RowCount (ws : List ℕ) (v : ℕ) (answer : Bool) (incoming : List ℕ) : Type 0 where
@@ -48,7 +48,7 @@ LevelsOrdered ws = (v : ℕ) → v < size ws → (label_at ws v).lowest ≤ (lab
 
 -- every label is in range, and every target is a node
 pub record Ranged (n : ℕ) (ws : List ℕ) : Type 0 where
-  pub labels : (v : ℕ) → v < size ws → labelInRange n (label_at ws v) ≡ true
+  pub labels : (v : ℕ) → v < size ws → label_in_range n (label_at ws v) ≡ true
   pub targets : (v : ℕ) → v < size ws → Within ws v
 
 -- An answer to whether every label is in range and every target is a node. After a yes, `incoming` counts all links.
@@ -78,7 +78,7 @@ pub record RowDue (ws : List ℕ) (v : ℕ) (incoming queue : List ℕ) (queued 
 pub record RowTaken (ws : List ℕ) (v end : ℕ) (incoming queue : List ℕ) (queued : ℕ) (later line : List ℕ) (count : ℕ) : Type 0 where
   pub long : length later ≡ 255
   pub listing : Queued (size ws) later line count
-  pub taken : (w : ℕ) → w < size ws → get_or later w 0 + among ws w (linksFrom ws v) end ≡ get_or incoming w 0
+  pub taken : (w : ℕ) → w < size ws → get_or later w 0 + among ws w (links_from ws v) end ≡ get_or incoming w 0
   pub more : queued ≤ count
   pub same : (i : ℕ) → i < queued → get_or line i 0 ≡ get_or queue i 0
 

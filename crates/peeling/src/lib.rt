@@ -5,8 +5,8 @@
 
 ghost use Rattle.std.specs.Prelude.{◌+◌, ◌≤◌, ◌<◌, false, ◌≡◌, length};
 ghost use Rattle.layout.specs.Builder.{stated};
-ghost use Rattle.layout.specs.Layout.{Sound, rowEnd, size};
-ghost use Rattle.peeling.specs.Range.{labelInRange};
+ghost use Rattle.layout.specs.Layout.{Sound, row_end, size};
+ghost use Rattle.peeling.specs.Range.{label_in_range};
 ghost use Rattle.peeling.specs.Counts.{Count, Counted, LevelsOrdered, Peels, Queued, RowCount, RowDue, RowTaken};
 
 use layout::Label;
@@ -44,7 +44,7 @@ fn count_row<'a>(graph: &'a [u16], v: usize, incoming: &mut [u16; 255]) -> bool
 // record has ranges.
 fn is_label_in_range(n: usize, label: Label, ranged: bool) -> bool
     requires { ranged ≡ false → label.lowest ≤ label.highest }
-    ensures { result ≡ labelInRange n (stated label) }
+    ensures { result ≡ label_in_range n (stated label) }
 {
     let kind = label.kind as usize;
     if kind == 0 {
@@ -104,7 +104,7 @@ fn take_links<'a>(
     queued: usize,
 ) -> usize
     requires { RowDue graph.now v incoming.old queue.old queued }
-    ensures { RowTaken graph.now v (rowEnd graph.now v) incoming.old queue.old queued incoming.new queue.new result }
+    ensures { RowTaken graph.now v (row_end graph.now v) incoming.old queue.old queued incoming.new queue.new result }
 {
     let mut count = queued;
     let end = graph[v + 2] as usize;

@@ -11,7 +11,7 @@ use borrow.Author.Tests.{le-leb, leb-true}
 use lib.Dec.{leb}
 use lib.ListN.{length}
 use Rattle.graphs.specs.Rows.{Row}
-use Rattle.graphs.specs.Large.{linksIn}
+use Rattle.graphs.specs.Large.{links_in}
 use Rattle.graphs.specs.Number.{Canonical, written}
 use Rattle.graphs.proofs.Search.{both_true, true-both, not-true-false}
 use Rattle.lattice.specs.Label.{Label}
@@ -23,7 +23,7 @@ use Rattle.record.specs.declared.GraphFault.{GraphFault}
 use Rattle.record.specs.Read.{Reading, refused, accepted, reading}
 use Rattle.record.proofs.Theorems.{accepted-fits}
 use Rattle.rows.specs.declared.Row as lent
-use Rattle.rows.specs.Rows.{lentRows, lentNodes, filled}
+use Rattle.rows.specs.Rows.{lent_rows, lent_nodes, filled}
 use Rattle.rows.proofs.LentRows.{nodes-length}
 use Rattle.rows.proofs.Tables.{lent_length}
 use Rattle.replies.specs.declared.Side.TheVariants.{First}
@@ -31,23 +31,23 @@ use Rattle.replies.specs.declared.Reply.{Reply}
 use Rattle.replies.specs.declared.Reply.TheVariants.{Counts, Table, Graph, NoRoom, TooLarge}
 use Rattle.replies.specs.Reply.{refusal}
 use Rattle.planning.specs.Exportable.{WrittenForm}
-use Rattle.planning.specs.Planning.{Exported, exportedAs, fits, exportedForm, exportedRows, exported, exporting}
+use Rattle.planning.specs.Planning.{Exported, exported_as, fits, exported_form, exported_rows, exported, exporting}
 use Rattle.planning.proofs.Due.{Grounds, Due}
 use Rattle.planning.proofs.Exports.{exporting-refused, exporting-accepted}
 
 -- The test of room says whether rows and node bytes have room for a form.
-fits-exact : (form : List (Row Label)) (rows : List lent.Row) (nodes : List ℕ) → (fits form rows nodes ≡ true) ↔ ((linksIn form ≤ length rows) × (length form * 3 ≤ length nodes))
+fits-exact : (form : List (Row Label)) (rows : List lent.Row) (nodes : List ℕ) → (fits form rows nodes ≡ true) ↔ ((links_in form ≤ length rows) × (length form * 3 ≤ length nodes))
 unfolding fits
 fits-exact form rows nodes = (
   λ e.
-      let (a, b) = both_true (leb (length (lentRows form)) (length rows)) (leb (length (lentNodes form)) (length nodes)) e in (
-        omega (arith, leb-true (length (lentRows form)) (length rows) a, lent_length form 0),
-        omega (arith, leb-true (length (lentNodes form)) (length nodes) b, nodes-length form),
+      let (a, b) = both_true (leb (length (lent_rows form)) (length rows)) (leb (length (lent_nodes form)) (length nodes)) e in (
+        omega (arith, leb-true (length (lent_rows form)) (length rows) a, lent_length form 0),
+        omega (arith, leb-true (length (lent_nodes form)) (length nodes) b, nodes-length form),
       ),
   λ (a, b).
-      true-both (leb (length (lentRows form)) (length rows)) (leb (length (lentNodes form)) (length nodes))
-      (le-leb (length (lentRows form)) (length rows) (omega (arith, lent_length form 0)))
-      (le-leb (length (lentNodes form)) (length nodes) (omega (arith, nodes-length form))),
+      true-both (leb (length (lent_rows form)) (length rows)) (leb (length (lent_nodes form)) (length nodes))
+      (le-leb (length (lent_rows form)) (length rows) (omega (arith, lent_length form 0)))
+      (le-leb (length (lent_nodes form)) (length nodes) (omega (arith, nodes-length form))),
 )
 
 module _ (n : ℕ) (t bytes : List ℕ) (rows : List lent.Row) (nodes : List ℕ) where
@@ -56,16 +56,16 @@ module _ (n : ℕ) (t bytes : List ℕ) (rows : List lent.Row) (nodes : List ℕ
 
   -- "Too few rows or types"
   abbrev Few : List (Row Label) → Type 0
-  Few form = (length rows < linksIn form) ⊎ (length nodes < length form * 3)
+  Few form = (length rows < links_in form) ⊎ (length nodes < length form * 3)
 
   abbrev Room : List (Row Label) → Type 0
-  Room form = (linksIn form ≤ length rows) × (length form * 3 ≤ length nodes)
+  Room form = (links_in form ≤ length rows) × (length form * 3 ≤ length nodes)
 
   abbrev grounds : Grounds
   grounds =
       record {
         for-length = λ l. ⊥;
-        for-counts = λ a b. Opens × ((form : List (Row Label)) × WrittenForm n bytes form × (length form ≡ a) × (linksIn form ≡ b) × Room form);
+        for-counts = λ a b. Opens × ((form : List (Row Label)) × WrittenForm n bytes form × (length form ≡ a) × (links_in form ≡ b) × Room form);
         for-table = λ fault. table.opened n t ≡ opened.Refused fault;
         for-graph = λ fault. Opens × (reading n bytes ≡ refused fault);
         for-room = Opens × ((form : List (Row Label)) × WrittenForm n bytes form × Few form);
@@ -83,7 +83,7 @@ module _ (n : ℕ) (t bytes : List ℕ) (rows : List lent.Row) (nodes : List ℕ
   told : Told
   told = tabled (table.opened n t) refl
     where
-      lent : Opens → (form : List (Row Label)) → WrittenForm n bytes form → Dec (linksIn form ≤ length rows) → Dec (length form * 3 ≤ length nodes) → Told
+      lent : Opens → (form : List (Row Label)) → WrittenForm n bytes form → Dec (links_in form ≤ length rows) → Dec (length form * 3 ≤ length nodes) → Told
       lent e form f (no h) k = few (e, (form, f, inl (omega arith)))
       lent e form f (yes h) (no k) = few (e, (form, f, inr (omega arith)))
       lent e form f (yes h) (yes k) = room e form f (h, k)
@@ -92,7 +92,7 @@ module _ (n : ℕ) (t bytes : List ℕ) (rows : List lent.Row) (nodes : List ℕ
       read e (refused fault) q = bad-graph fault (e, q)
       read e (accepted graph) q =
           let (form, is) = accepted-fits n bytes graph q in
-          lent e form (record { graph = graph; reads = q; is = is }) (dec_le (linksIn form) (length rows)) (dec_le (length form * 3) (length nodes))
+          lent e form (record { graph = graph; reads = q; is = is }) (dec_le (links_in form) (length rows)) (dec_le (length form * 3) (length nodes))
 
       tabled : (o : Opened) → table.opened n t ≡ o → Told
       tabled (opened.Refused fault) e = bad-table fault e
@@ -103,37 +103,37 @@ module _ (n : ℕ) (t bytes : List ℕ) (rows : List lent.Row) (nodes : List ℕ
   abbrev result : Exported
   result = exporting n t bytes rows nodes
 
-  table-result : (fault : TableFault) → grounds.for-table fault → result ≡ exportedAs (Table fault) rows nodes
+  table-result : (fault : TableFault) → grounds.for-table fault → result ≡ exported_as (Table fault) rows nodes
   table-result fault e = sym (exporting-refused n t bytes nodes rows fault e)
 
-  graph-result : (fault : GraphFault) → grounds.for-graph fault → result ≡ exportedAs (Graph fault First) rows nodes
+  graph-result : (fault : GraphFault) → grounds.for-graph fault → result ≡ exported_as (Graph fault First) rows nodes
   graph-result fault (e, q) = sym (exporting-accepted n t bytes nodes rows e) ∙ ap (λ (o : Reading). exported o rows nodes) q
 
-  form-result : Opens → (form : List (Row Label)) → WrittenForm n bytes form → result ≡ exportedForm (written form) rows nodes
-  unfolding exportedRows
+  form-result : Opens → (form : List (Row Label)) → WrittenForm n bytes form → result ≡ exported_form (written form) rows nodes
+  unfolding exported_rows
   form-result e form f =
       sym (exporting-accepted n t bytes nodes rows e) ∙ ap (λ (o : Reading). exported o rows nodes) f.reads
-      ∙ ap (λ (c : Canonical Label). exportedForm c rows nodes) f.is
+      ∙ ap (λ (c : Canonical Label). exported_form c rows nodes) f.is
 
-  room-result : grounds.for-room → result ≡ exportedAs NoRoom rows nodes
+  room-result : grounds.for-room → result ≡ exported_as NoRoom rows nodes
   room-result (e, (form, f, short)) =
       form-result e form f
-      ∙ ap (λ (b : Bool). cond b (exportedAs (Counts (length form) (length (lentRows form))) (filled (lentRows form) rows) (filled (lentNodes form) nodes)) (exportedAs NoRoom rows nodes))
-      (not-true-false (fits form rows nodes) (λ q. let (a, b) = (fits-exact form rows nodes).0 q in ⊎_elim (λ (h : length rows < linksIn form). omega arith) (λ (h : length nodes < length form * 3). omega arith) short))
+      ∙ ap (λ (b : Bool). cond b (exported_as (Counts (length form) (length (lent_rows form))) (filled (lent_rows form) rows) (filled (lent_nodes form) nodes)) (exported_as NoRoom rows nodes))
+      (not-true-false (fits form rows nodes) (λ q. let (a, b) = (fits-exact form rows nodes).0 q in ⊎_elim (λ (h : length rows < links_in form). omega arith) (λ (h : length nodes < length form * 3). omega arith) short))
 
   pub counts-result : Opens → (form : List (Row Label)) → WrittenForm n bytes form → Room form →
-      result ≡ exportedAs (Counts (length form) (linksIn form)) (filled (lentRows form) rows) (filled (lentNodes form) nodes)
+      result ≡ exported_as (Counts (length form) (links_in form)) (filled (lent_rows form) rows) (filled (lent_nodes form) nodes)
   counts-result e form f enough =
       form-result e form f
-      ∙ ap (λ (b : Bool). cond b (exportedAs (Counts (length form) (length (lentRows form))) (filled (lentRows form) rows) (filled (lentNodes form) nodes)) (exportedAs NoRoom rows nodes))
+      ∙ ap (λ (b : Bool). cond b (exported_as (Counts (length form) (length (lent_rows form))) (filled (lent_rows form) rows) (filled (lent_nodes form) nodes)) (exported_as NoRoom rows nodes))
       ((fits-exact form rows nodes).1 enough)
-      ∙ ap (λ (k : ℕ). exportedAs (Counts (length form) k) (filled (lentRows form) rows) (filled (lentNodes form) nodes)) (lent_length form 0)
+      ∙ ap (λ (k : ℕ). exported_as (Counts (length form) k) (filled (lent_rows form) rows) (filled (lent_nodes form) nodes)) (lent_length form 0)
 
   -- Whichever reply is given, it is due.
   export-due : Due grounds result.reply
   export-due = go told
     where
-      by : {r : Reply} {x : List lent.Row} {y : List ℕ} → result ≡ exportedAs r x y → Due grounds r → Due grounds result.reply
+      by : {r : Reply} {x : List lent.Row} {y : List ℕ} → result ≡ exported_as r x y → Due grounds r → Due grounds result.reply
       by e d = subst (Due grounds) (sym (ap (λ (x : Exported). x.reply) e)) d
 
       go : Told → Due grounds result.reply
@@ -159,7 +159,7 @@ module _ (n : ℕ) (t bytes : List ℕ) (rows : List lent.Row) (nodes : List ℕ
 
   -- The counts of nodes and rows are given exactly where no refusal is due.
   pub counts-exact : (a b : ℕ) → (result.reply ≡ Counts a b) ↔
-      (Opens × ((form : List (Row Label)) × WrittenForm n bytes form × (length form ≡ a) × (linksIn form ≡ b) × Room form))
+      (Opens × ((form : List (Row Label)) × WrittenForm n bytes form × (length form ≡ a) × (links_in form ≡ b) × Room form))
   counts-exact a b =
       exact (Counts a b) (λ (e, (form, f, p, q, enough)). ap (λ (x : Exported). x.reply) (counts-result e form f enough) ∙ ap₂ Counts p q)
 
@@ -171,7 +171,7 @@ module _ (n : ℕ) (t bytes : List ℕ) (rows : List lent.Row) (nodes : List ℕ
   pub refused-unchanged : (k : ℕ) → refusal result.reply ≡ some k → (result.rows ≡ rows) × (result.nodes ≡ nodes)
   refused-unchanged k q = go told
     where
-      kept : {r : Reply} → result ≡ exportedAs r rows nodes → (result.rows ≡ rows) × (result.nodes ≡ nodes)
+      kept : {r : Reply} → result ≡ exported_as r rows nodes → (result.rows ≡ rows) × (result.nodes ≡ nodes)
       kept e = (ap (λ (x : Exported). x.rows) e, ap (λ (x : Exported). x.nodes) e)
 
       go : Told → (result.rows ≡ rows) × (result.nodes ≡ nodes)

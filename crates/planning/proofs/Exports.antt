@@ -10,8 +10,8 @@ use lib.Dec.{eqb, leb}
 use lib.ListN.{length, take, drop}
 use Rattle.graphs.specs.Graph.{Reached}
 use Rattle.graphs.specs.Rows.{Row}
-use Rattle.graphs.specs.Large.{linksIn}
-use Rattle.graphs.specs.Number.{Canonical, canonical, manyNodes, manyLinks, written}
+use Rattle.graphs.specs.Large.{links_in}
+use Rattle.graphs.specs.Number.{Canonical, canonical, many_nodes, many_links, written}
 use Rattle.graphs.proofs.Lists.{tells-eqb}
 use Rattle.graphs.proofs.Form.Rules.{form-links}
 use Rattle.graphs.proofs.Search.{true-false}
@@ -19,7 +19,7 @@ use Rattle.lattice.specs.Label.{Label}
 use Rattle.acceptance.specs.declared.TableFault.{TableFault}
 use Rattle.acceptance.specs.declared.Opened.TheVariants as opened
 use Rattle.acceptance.specs.Reply as table
-use Rattle.layout.specs.Layout.{Sound, size, rows_of, graphIn}
+use Rattle.layout.specs.Layout.{Sound, size, rows_of, graph_in}
 use Rattle.layout.proofs.Places.{link-known}
 use Rattle.layout.proofs.Reaching.{reached-inside}
 use Rattle.layout.proofs.Rows.{length-rows}
@@ -30,7 +30,7 @@ use Rattle.record.specs.declared.reading.Verdict.TheVariants.{Accepted, Refused}
 use Rattle.record.specs.Read.{Reading, reading}
 use Rattle.record.specs.Reads.{ReadsAs}
 use Rattle.rows.specs.declared.Row as lent
-use Rattle.rows.specs.Rows.{filled, lentRows, lentNodes}
+use Rattle.rows.specs.Rows.{filled, lent_rows, lent_nodes}
 use Rattle.rows.specs.Lending.{Lendable}
 use Rattle.rows.proofs.LentRows.{nodes-length}
 use Rattle.rows.proofs.Tables.{lent_length}
@@ -39,17 +39,17 @@ use Rattle.replies.specs.declared.Reply.{Reply}
 use Rattle.replies.specs.declared.Reply.TheVariants.{Counts, Graph, NoRoom, Table, TooLarge}
 use Rattle.pairs.proofs.Readings.{told-accepted, told-refused}
 use Rattle.calls.proofs.Tables.{table-refused, table-accepted}
-use Rattle.planning.specs.Planning.{Exported, exportedAs, fits, exportedForm, exportedRows, exported, exporting, Makes}
+use Rattle.planning.specs.Planning.{Exported, exported_as, fits, exported_form, exported_rows, exported, exporting, Makes}
 
 -- A refusal stores nothing.
 pub makes_none : {export : List lent.Row → Exported} {room : ℕ} {answer said : Reply} {count : ℕ} {at : List lent.Row} {nodes : List ℕ} → said ≡ answer → count ≡ 0 →
-    ((rows : List lent.Row) → length rows ≡ room → exportedAs answer rows nodes ≡ export rows) → Makes export room said count at nodes
+    ((rows : List lent.Row) → length rows ≡ room → exported_as answer rows nodes ≡ export rows) → Makes export room said count at nodes
 makes_none {at = at} {nodes = nodes} e none h =
     record {
       inside = omega arith;
       few = omega arith;
       stored = λ rows l.
-          ap₂ (λ (a : Reply) (k : ℕ). exportedAs a (take k at ++ drop k rows) nodes) e none ∙ h rows l;
+          ap₂ (λ (a : Reply) (k : ℕ). exported_as a (take k at ++ drop k rows) nodes) e none ∙ h rows l;
     }
 
 -- `Makes` holds for an equal export.
@@ -58,26 +58,26 @@ pub makes-as : {export other : List lent.Row → Exported} {room : ℕ} {answer 
 makes-as m h = record { inside = m.inside; few = m.few; stored = λ rows l. m.stored rows l ∙ h rows }
 
 -- The export of a graph in words.
-module _ {ws : List ℕ} (sound : Sound ws) {b : Bool} {new : List ℕ} (r : Renumbers (canonical eqb (graphIn ws)) b new) where
-  narrow : (v w f : ℕ) → Reached (graphIn ws) v → (graphIn ws).link v f ≡ some w → f < 64
+module _ {ws : List ℕ} (sound : Sound ws) {b : Bool} {new : List ℕ} (r : Renumbers (canonical eqb (graph_in ws)) b new) where
+  narrow : (v w f : ℕ) → Reached (graph_in ws) v → (graph_in ws).link v f ≡ some w → f < 64
   narrow v w f reached e = (link-known sound v f w (reached-inside sound v reached) e).0
 
   -- the written form, where there is one
-  form : b ≡ true → canonical eqb (graphIn ws) ≡ written (rows_of new)
-  form is = go (canonical eqb (graphIn ws)) refl
+  form : b ≡ true → canonical eqb (graph_in ws) ≡ written (rows_of new)
+  form is = go (canonical eqb (graph_in ws)) refl
     where
-      go : (c : Canonical Label) → canonical eqb (graphIn ws) ≡ c → canonical eqb (graphIn ws) ≡ written (rows_of new)
-      go manyNodes e = true-false is (r.many-nodes e)
-      go manyLinks e = true-false is (r.many-links e)
+      go : (c : Canonical Label) → canonical eqb (graph_in ws) ≡ c → canonical eqb (graph_in ws) ≡ written (rows_of new)
+      go many_nodes e = true-false is (r.many-nodes e)
+      go many_links e = true-false is (r.many-links e)
       go (written rows) e = e ∙ ap (λ (x : List (Row Label)). written x) (sym (r.rows_are rows e))
 
-  pub export-large : b ≡ false → (rows : List lent.Row) (nodes : List ℕ) → exportedAs TooLarge rows nodes ≡ exportedRows (rows_of ws) rows nodes
-  unfolding exportedRows
-  export-large is rows nodes = go (canonical eqb (graphIn ws)) refl
+  pub export-large : b ≡ false → (rows : List lent.Row) (nodes : List ℕ) → exported_as TooLarge rows nodes ≡ exported_rows (rows_of ws) rows nodes
+  unfolding exported_rows
+  export-large is rows nodes = go (canonical eqb (graph_in ws)) refl
     where
-      go : (c : Canonical Label) → canonical eqb (graphIn ws) ≡ c → exportedAs TooLarge rows nodes ≡ exportedForm (canonical eqb (graphIn ws)) rows nodes
-      go manyNodes e = sym (ap (λ (x : Canonical Label). exportedForm x rows nodes) e)
-      go manyLinks e = sym (ap (λ (x : Canonical Label). exportedForm x rows nodes) e)
+      go : (c : Canonical Label) → canonical eqb (graph_in ws) ≡ c → exported_as TooLarge rows nodes ≡ exported_form (canonical eqb (graph_in ws)) rows nodes
+      go many_nodes e = sym (ap (λ (x : Canonical Label). exported_form x rows nodes) e)
+      go many_links e = sym (ap (λ (x : Canonical Label). exported_form x rows nodes) e)
       go (written rs) e = true-false (r.answers rs e) is
 
   module _ (is : b ≡ true) where
@@ -86,76 +86,76 @@ module _ {ws : List ℕ} (sound : Sound ws) {b : Bool} {new : List ℕ} (r : Ren
         record {
           sound = r.sound (rows_of new) (form is);
           small = r.small (rows_of new) (form is);
-          short = form-links eqb tells-eqb (graphIn ws) narrow (rows_of new) (form is);
+          short = form-links eqb tells-eqb (graph_in ws) narrow (rows_of new) (form is);
         }
 
-    links-are : linksIn (rows_of new) ≡ length (lentRows (rows_of new))
+    links-are : links_in (rows_of new) ≡ length (lent_rows (rows_of new))
     links-are = sym (lent_length (rows_of new) 0)
 
-    bytes-are : size new * 3 ≡ length (lentNodes (rows_of new))
+    bytes-are : size new * 3 ≡ length (lent_nodes (rows_of new))
     bytes-are = sym (nodes-length (rows_of new) ∙ ap (λ (n : ℕ). n * 3) (length-rows new 0 (size new)))
 
     module _ (rows : List lent.Row) (nodes : List ℕ) where
       abbrev full : Exported
-      full = exportedAs (Counts (length (rows_of new)) (length (lentRows (rows_of new)))) (filled (lentRows (rows_of new)) rows) (filled (lentNodes (rows_of new)) nodes)
+      full = exported_as (Counts (length (rows_of new)) (length (lent_rows (rows_of new)))) (filled (lent_rows (rows_of new)) rows) (filled (lent_nodes (rows_of new)) nodes)
 
-      fitted : exportedRows (rows_of ws) rows nodes ≡ cond (fits (rows_of new) rows nodes) full (exportedAs NoRoom rows nodes)
-      unfolding exportedRows
-      fitted = ap (λ (x : Canonical Label). exportedForm x rows nodes) (form is)
+      fitted : exported_rows (rows_of ws) rows nodes ≡ cond (fits (rows_of new) rows nodes) full (exported_as NoRoom rows nodes)
+      unfolding exported_rows
+      fitted = ap (λ (x : Canonical Label). exported_form x rows nodes) (form is)
 
       -- 8 is given where rows or node bytes are too few.
-      pub export-few-rows : length rows < linksIn (rows_of new) → exportedAs NoRoom rows nodes ≡ exportedRows (rows_of ws) rows nodes
+      pub export-few-rows : length rows < links_in (rows_of new) → exported_as NoRoom rows nodes ≡ exported_rows (rows_of ws) rows nodes
       unfolding fits
       export-few-rows h =
-          sym (fitted ∙ ap (λ (t : Bool). cond (t && leb (length (lentNodes (rows_of new))) (length nodes)) full (exportedAs NoRoom rows nodes))
-          (lt-leb (length (lentRows (rows_of new))) (length rows) (omega (arith, links-are))))
+          sym (fitted ∙ ap (λ (t : Bool). cond (t && leb (length (lent_nodes (rows_of new))) (length nodes)) full (exported_as NoRoom rows nodes))
+          (lt-leb (length (lent_rows (rows_of new))) (length rows) (omega (arith, links-are))))
 
-      pub export-few-bytes : linksIn (rows_of new) ≤ length rows → length nodes < size new * 3 → exportedAs NoRoom rows nodes ≡ exportedRows (rows_of ws) rows nodes
+      pub export-few-bytes : links_in (rows_of new) ≤ length rows → length nodes < size new * 3 → exported_as NoRoom rows nodes ≡ exported_rows (rows_of ws) rows nodes
       unfolding fits
       export-few-bytes k h =
-          sym (fitted ∙ ap₂ (λ (t u : Bool). cond (t && u) full (exportedAs NoRoom rows nodes))
-          (le-leb (length (lentRows (rows_of new))) (length rows) (omega (arith, links-are)))
-          (lt-leb (length (lentNodes (rows_of new))) (length nodes) (omega (arith, bytes-are))))
+          sym (fitted ∙ ap₂ (λ (t u : Bool). cond (t && u) full (exported_as NoRoom rows nodes))
+          (le-leb (length (lent_rows (rows_of new))) (length rows) (omega (arith, links-are)))
+          (lt-leb (length (lent_nodes (rows_of new))) (length nodes) (omega (arith, bytes-are))))
 
-      pub export-full : linksIn (rows_of new) ≤ length rows → size new * 3 ≤ length nodes → full ≡ exportedRows (rows_of ws) rows nodes
+      pub export-full : links_in (rows_of new) ≤ length rows → size new * 3 ≤ length nodes → full ≡ exported_rows (rows_of ws) rows nodes
       unfolding fits
       export-full k h =
-          sym (fitted ∙ ap₂ (λ (t u : Bool). cond (t && u) full (exportedAs NoRoom rows nodes))
-          (le-leb (length (lentRows (rows_of new))) (length rows) (omega (arith, links-are)))
-          (le-leb (length (lentNodes (rows_of new))) (length nodes) (omega (arith, bytes-are))))
+          sym (fitted ∙ ap₂ (λ (t u : Bool). cond (t && u) full (exported_as NoRoom rows nodes))
+          (le-leb (length (lent_rows (rows_of new))) (length rows) (omega (arith, links-are)))
+          (le-leb (length (lent_nodes (rows_of new))) (length nodes) (omega (arith, bytes-are))))
 
     -- Rows and node bytes are made where there is room.
-    pub makes-full : {room count links : ℕ} {at : List lent.Row} (nodes : List ℕ) {made : List ℕ} → links ≡ linksIn (rows_of new) → links ≤ room → count ≡ size new →
-        size new * 3 ≤ length nodes → made ≡ filled (lentNodes (rows_of new)) nodes → take (linksIn (rows_of new)) at ≡ lentRows (rows_of new) →
-        Makes (λ rows. exportedRows (rows_of ws) rows nodes) room (Counts count links) links at made
+    pub makes-full : {room count links : ℕ} {at : List lent.Row} (nodes : List ℕ) {made : List ℕ} → links ≡ links_in (rows_of new) → links ≤ room → count ≡ size new →
+        size new * 3 ≤ length nodes → made ≡ filled (lent_nodes (rows_of new)) nodes → take (links_in (rows_of new)) at ≡ lent_rows (rows_of new) →
+        Makes (λ rows. exported_rows (rows_of ws) rows nodes) room (Counts count links) links at made
     makes-full {room} {count} {links} {at} nodes {made} e inside c bytes filling lending =
         let n : count ≡ length (rows_of new) = c ∙ sym (length-rows new 0 (size new)) in
-        let l : links ≡ length (lentRows (rows_of new)) = e ∙ links-are in
+        let l : links ≡ length (lent_rows (rows_of new)) = e ∙ links-are in
         record {
           inside = inside;
           few = omega (arith, lendable.short);
           stored = λ rows h.
-              ap₂ (λ (x y : ℕ). exportedAs (Counts x y) (take links at ++ drop links rows) made) n l
-              ∙ ap₂ (λ (x : List lent.Row) (y : ℕ). exportedAs (Counts (length (rows_of new)) (length (lentRows (rows_of new)))) (x ++ drop y rows) made)
+              ap₂ (λ (x y : ℕ). exported_as (Counts x y) (take links at ++ drop links rows) made) n l
+              ∙ ap₂ (λ (x : List lent.Row) (y : ℕ). exported_as (Counts (length (rows_of new)) (length (lent_rows (rows_of new)))) (x ++ drop y rows) made)
               (ap (λ (k : ℕ). take k at) e ∙ lending) l
-              ∙ ap (λ (x : List ℕ). exportedAs (Counts (length (rows_of new)) (length (lentRows (rows_of new)))) (filled (lentRows (rows_of new)) rows) x) filling
+              ∙ ap (λ (x : List ℕ). exported_as (Counts (length (rows_of new)) (length (lent_rows (rows_of new)))) (filled (lent_rows (rows_of new)) rows) x) filling
               ∙ export-full rows nodes (omega arith) bytes;
         }
 
 -- The export of a record.
 module _ {n : ℕ} {o : Reading} {v : Verdict} {ws : List ℕ} (tells : ReadsAs n o v ws) (nodes : List ℕ) where
-  pub read-refused : (fault : GraphFault) → v ≡ Refused fault → (rows : List lent.Row) → exportedAs (Graph fault First) rows nodes ≡ exported o rows nodes
+  pub read-refused : (fault : GraphFault) → v ≡ Refused fault → (rows : List lent.Row) → exported_as (Graph fault First) rows nodes ≡ exported o rows nodes
   read-refused fault e rows = sym (ap (λ (i : Reading). exported i rows nodes) (told-refused tells fault e))
 
-  pub read-accepted : v ≡ Accepted → (rows : List lent.Row) → exportedRows (rows_of ws) rows nodes ≡ exported o rows nodes
+  pub read-accepted : v ≡ Accepted → (rows : List lent.Row) → exported_rows (rows_of ws) rows nodes ≡ exported o rows nodes
   read-accepted e rows = sym (ap (λ (i : Reading). exported i rows nodes) (told-accepted tells e).is)
 
 -- The table's 1 to 3 come before that.
 module _ (n : ℕ) (t bytes nodes : List ℕ) (rows : List lent.Row) where
-  pub exporting-refused : (fault : TableFault) → table.opened n t ≡ opened.Refused fault → exportedAs (Table fault) rows nodes ≡ exporting n t bytes rows nodes
+  pub exporting-refused : (fault : TableFault) → table.opened n t ≡ opened.Refused fault → exported_as (Table fault) rows nodes ≡ exporting n t bytes rows nodes
   unfolding exporting
-  exporting-refused fault e = sym (table-refused (λ r. exportedAs r rows nodes) (exported (reading n bytes) rows nodes) fault e)
+  exporting-refused fault e = sym (table-refused (λ r. exported_as r rows nodes) (exported (reading n bytes) rows nodes) fault e)
 
   pub exporting-accepted : table.opened n t ≡ opened.Accepted → exported (reading n bytes) rows nodes ≡ exporting n t bytes rows nodes
   unfolding exporting
-  exporting-accepted e = sym (table-accepted (λ r. exportedAs r rows nodes) (exported (reading n bytes) rows nodes) e)
+  exporting-accepted e = sym (table-accepted (λ r. exported_as r rows nodes) (exported (reading n bytes) rows nodes) e)

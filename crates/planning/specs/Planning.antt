@@ -3,15 +3,15 @@
 use Rattle.std.specs.Prelude.{◌≡◌, Bool, cond, ◌&&◌, List, ◌++◌, ℕ, ◌≤◌, eqb, leb, length, get_or, take, drop}
 use Rattle.std.proofs.Math.Option.{some}
 use Rattle.graphs.specs.Rows.{Row}
-use Rattle.graphs.specs.Large.{linksIn}
-use Rattle.graphs.specs.Number.{Canonical, canonical, manyNodes, manyLinks, written}
+use Rattle.graphs.specs.Large.{links_in}
+use Rattle.graphs.specs.Number.{Canonical, canonical, many_nodes, many_links, written}
 use Rattle.lattice.specs.Label.{Label}
 use Rattle.acceptance.specs.Reply as table
 use Rattle.record.specs.declared.GraphFault.TheVariants.{Malformed}
-use Rattle.record.specs.Read.{Reading, refused, accepted, reading, judged, graphOfRows}
+use Rattle.record.specs.Read.{Reading, refused, accepted, reading, judged, graph_of_rows}
 use Rattle.rows.specs.declared.Row as lent
-use Rattle.rows.specs.Rows.{nodesIn, tableRows, isSized, allKnown, hasTwice, lentRows, lentNodes, filled}
-use Rattle.rows.specs.Filling.{placedRows}
+use Rattle.rows.specs.Rows.{nodes_in, table_rows, is_sized, all_known, has_twice, lent_rows, lent_nodes, filled}
+use Rattle.rows.specs.Filling.{placed_rows}
 use Rattle.replies.specs.declared.Side.TheVariants.{First}
 use Rattle.replies.specs.declared.Reply.{Reply}
 use Rattle.replies.specs.declared.Reply.TheVariants.{Counts, Graph, NoRoom, TooLarge, RowOutOfRange, RowTwice}
@@ -24,9 +24,9 @@ use Rattle.calls.specs.Calls.{checked}
 -- 15, and then 5 for types and 6, 7 and 8 as for records".
 unfoldable pub imported : ℕ → ℕ → List lent.Row → List ℕ → List ℕ → Result
 imported n count rows nodes out =
-    cond (isSized nodes count)
-    (cond (allKnown (nodesIn nodes) rows)
-    (cond (hasTwice rows) (refusing RowTwice out) (rewritten (judged n (some (tableRows nodes rows))) out))
+    cond (is_sized nodes count)
+    (cond (all_known (nodes_in nodes) rows)
+    (cond (has_twice rows) (refusing RowTwice out) (rewritten (judged n (some (table_rows nodes rows))) out))
     (refusing RowOutOfRange out))
     (refusing (Graph Malformed First) out)
 
@@ -35,8 +35,8 @@ unfoldable pub importing : ℕ → List ℕ → ℕ → List lent.Row → List �
 importing n t count rows nodes out = checked (λ r. refusing r out) (table.opened n t) (imported n count rows nodes out)
 
 -- Import of lent rows. Past the first 2,048 no row is read.
-abbrev pub importingRows : ℕ → List ℕ → List lent.Row → List ℕ → List ℕ → Result
-importingRows n t rows nodes out = importing n t (length rows) (take 2048 rows) nodes out
+abbrev pub importing_rows : ℕ → List ℕ → List lent.Row → List ℕ → List ℕ → Result
+importing_rows n t rows nodes out = importing n t (length rows) (take 2048 rows) nodes out
 
 -- The reply of export, and what the lent rows and node bytes hold beside it.
 pub record Exported : Type 0 where
@@ -45,47 +45,47 @@ pub record Exported : Type 0 where
   pub nodes : List ℕ
 
 -- This reply with these rows and node bytes.
-abbrev pub exportedAs : Reply → List lent.Row → List ℕ → Exported
-exportedAs reply rows nodes = record { reply = reply; rows = rows; nodes = nodes }
+abbrev pub exported_as : Reply → List lent.Row → List ℕ → Exported
+exported_as reply rows nodes = record { reply = reply; rows = rows; nodes = nodes }
 
 -- The rows and node bytes of a graph have room in those lent.
 unfoldable pub fits : List (Row Label) → List lent.Row → List ℕ → Bool
-fits form rows nodes = leb (length (lentRows form)) (length rows) && leb (length (lentNodes form)) (length nodes)
+fits form rows nodes = leb (length (lent_rows form)) (length rows) && leb (length (lent_nodes form)) (length nodes)
 
 -- Export of a written form: it "fills such rows sorted by parent and then feature and returns the counts of nodes and rows .. and does not touch
 -- rows and types past those it fills"; "Too few rows or types lent to export is 8, both unchanged".
-abbrev pub exportedForm : Canonical Label → List lent.Row → List ℕ → Exported
-exportedForm manyNodes rows nodes = exportedAs TooLarge rows nodes
-exportedForm manyLinks rows nodes = exportedAs TooLarge rows nodes
-exportedForm (written form) rows nodes =
+abbrev pub exported_form : Canonical Label → List lent.Row → List ℕ → Exported
+exported_form many_nodes rows nodes = exported_as TooLarge rows nodes
+exported_form many_links rows nodes = exported_as TooLarge rows nodes
+exported_form (written form) rows nodes =
     cond (fits form rows nodes)
-    (exportedAs (Counts (length form) (length (lentRows form))) (filled (lentRows form) rows) (filled (lentNodes form) nodes))
-    (exportedAs NoRoom rows nodes)
+    (exported_as (Counts (length form) (length (lent_rows form))) (filled (lent_rows form) rows) (filled (lent_nodes form) nodes))
+    (exported_as NoRoom rows nodes)
 
 -- "Export numbers the nodes as the written record does"
-unfoldable pub exportedRows : List (Row Label) → List lent.Row → List ℕ → Exported
-exportedRows graph rows nodes = exportedForm (canonical eqb (graphOfRows graph)) rows nodes
+unfoldable pub exported_rows : List (Row Label) → List lent.Row → List ℕ → Exported
+exported_rows graph rows nodes = exported_form (canonical eqb (graph_of_rows graph)) rows nodes
 
 -- Export of a record that was read: its 4 to 7 come before 8.
 abbrev pub exported : Reading → List lent.Row → List ℕ → Exported
-exported (refused fault) rows nodes = exportedAs (Graph fault First) rows nodes
-exported (accepted graph) rows nodes = exportedRows graph rows nodes
+exported (refused fault) rows nodes = exported_as (Graph fault First) rows nodes
+exported (accepted graph) rows nodes = exported_rows graph rows nodes
 
 -- Export with the table's 1 to 3 before the rest.
 unfoldable pub exporting : ℕ → List ℕ → List ℕ → List lent.Row → List ℕ → Exported
-exporting n t bytes rows nodes = checked (λ r. exportedAs r rows nodes) (table.opened n t) (exported (reading n bytes) rows nodes)
+exporting n t bytes rows nodes = checked (λ r. exported_as r rows nodes) (table.opened n t) (exported (reading n bytes) rows nodes)
 
 -- What export makes before rows are stored. `export` gives the result that is due for lent rows: whichever `room` rows are lent, storing the
 -- first `count` rows of `at` there gives that result.
 pub record Makes (export : List lent.Row → Exported) (room : ℕ) (answer : Reply) (count : ℕ) (at : List lent.Row) (nodes : List ℕ) : Type 0 where
   pub inside : count ≤ room
   pub few : count ≤ 2048
-  pub stored : (rows : List lent.Row) → length rows ≡ room → exportedAs answer (take count at ++ drop count rows) nodes ≡ export rows
+  pub stored : (rows : List lent.Row) → length rows ≡ room → exported_as answer (take count at ++ drop count rows) nodes ≡ export rows
 
 -- What import asks of the placed rows: there are 1 to 255 nodes and at most 2,048 links.
 pub record Placeable (nodes targets : List ℕ) : Type 0 where
-  pub some-nodes : 1 ≤ nodesIn nodes
-  pub small : nodesIn nodes ≤ 255
+  pub some-nodes : 1 ≤ nodes_in nodes
+  pub small : nodes_in nodes ≤ 255
   pub low : (k : ℕ) → get_or targets k 0 ≤ 256
   pub long : length targets ≡ 16320
-  pub links : linksIn (placedRows nodes targets (nodesIn nodes)) ≤ 2048
+  pub links : links_in (placed_rows nodes targets (nodes_in nodes)) ≤ 2048

@@ -3,7 +3,7 @@
 ghost use Rattle.std.specs.Prelude.{◌≡◌, ◌≤◌, length};
 ghost use Rattle.layout.specs.Layout.{Sound, longest, rows_of};
 ghost use Rattle.record.specs.Read.{reading};
-ghost use Rattle.planning.specs.Planning.{Makes, exportedRows, exported, exporting};
+ghost use Rattle.planning.specs.Planning.{Makes, exported_rows, exported, exporting};
 
 use acceptance::Opened;
 use record::reading::Verdict;
@@ -37,7 +37,7 @@ fn refuse(answer: Reply) -> Made
 // Export of a graph in words: the nodes get the numbers of the written record, and then 8 is checked.
 fn export_graph(graph: &[u16], room: usize, nodes: &mut [u8]) -> Made
     requires { Sound graph.now × (length graph.now ≤ longest) }
-    ensures { Makes (λ rows. exportedRows (rows_of graph.now) rows nodes.old) room result.answer result.count result.at nodes.new }
+    ensures { Makes (λ rows. exported_rows (rows_of graph.now) rows nodes.old) room result.answer result.count result.at nodes.new }
 {
     let mut new = [0u16; layout::LONGEST];
     if !numbering::renumber(graph, &mut new) {

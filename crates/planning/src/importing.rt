@@ -3,8 +3,8 @@
 ghost use Rattle.std.specs.Prelude.{◌≡◌, ◌≤◌, take};
 ghost use Rattle.std.proofs.Math.Option.{some};
 ghost use Rattle.record.specs.Read.{judged};
-ghost use Rattle.rows.specs.Rows.{isSized, nodesIn};
-ghost use Rattle.rows.specs.Filling.{placedRows};
+ghost use Rattle.rows.specs.Rows.{is_sized, nodes_in};
+ghost use Rattle.rows.specs.Filling.{placed_rows};
 ghost use Rattle.replies.specs.Reply.{resulting};
 ghost use Rattle.engine.specs.Rewriting.{rewritten};
 ghost use Rattle.planning.specs.Planning.{imported, importing, Placeable};
@@ -17,7 +17,7 @@ use rows::{Row, placing};
 
 // Whether the counts of node bytes and rows are those of a planning table; else 4 is due.
 fn is_sized(nodes: &[u8], count: usize) -> bool
-    ensures { result ≡ isSized nodes.now count }
+    ensures { result ≡ is_sized nodes.now count }
 {
     let length = nodes.len();
     if length % 3 != 0 {
@@ -40,7 +40,7 @@ fn import_placed<'a>(
     out: &mut [u8],
 ) -> Reply
     requires { (n ≤ 64) × Placeable nodes.now targets.now }
-    ensures { resulting result out.new ≡ rewritten (judged n (some (placedRows nodes.now targets.now (nodesIn nodes.now)))) out.old }
+    ensures { resulting result out.new ≡ rewritten (judged n (some (placed_rows nodes.now targets.now (nodes_in nodes.now)))) out.old }
 {
     if !rows::filling::are_stated(nodes) {
         return Reply::Graph(GraphFault::OutOfRange, Side::First);

@@ -18,7 +18,7 @@ use lib.Seq.{get_or-set_other}
 use Rattle.graphs.specs.Generalize.{both}
 use Rattle.graphs.specs.Large.{Ascending}
 use Rattle.graphs.proofs.Walk.{none-some}
-use Rattle.layout.specs.Layout.{Recorded, Sound, size, linksFrom, rowEnd, featureAt, targetAt, linkWord, graphIn}
+use Rattle.layout.specs.Layout.{Recorded, Sound, size, links_from, row_end, feature_at, target_at, link_word, graph_in}
 use Rattle.layout.proofs.Spans.{links-none, features-rise}
 use Rattle.layout.proofs.Places.{link-at, link-place}
 use Rattle.layout.proofs.Builder.{links-put}
@@ -152,7 +152,7 @@ module _ {leads : ℕ → Option (ℕ × ℕ)} {queue₀ words₀ : List ℕ} {k
     adds-link : (f : ℕ) (x : ℕ × ℕ) (marks' queue' : List ℕ) (next : ℕ) → bound ≤ f →
         ((g : ℕ) → bound ≤ g → g < f → leads g ≡ none) → leads f ≡ some x → x.0 < 255 → x.1 < 255 → now.at < length words →
         Enlisted queue (code_of x) now.count marks' queue' next →
-        Adds leads queue₀ words₀ known (suc f) marks' queue' (set words now.at (linkWord (f, get_or marks' (code_of x) 0)))
+        Adds leads queue₀ words₀ known (suc f) marks' queue' (set words now.at (link_word (f, get_or marks' (code_of x) 0)))
         (record { at = now.at + 1; count = next })
     adds-link f x marks' queue' next up none-there leads-x x-left x-right room listed =
         record {
@@ -163,9 +163,9 @@ module _ {leads : ℕ → Option (ℕ × ℕ)} {queue₀ words₀ : List ℕ} {k
               (record { left = x-left; right = x-right; below = listed.numbered; stands = listed.found }));
           rises = omega (arith, s.rises);
           short = omega (arith, s.short);
-          long = length-set words now.at (linkWord (f, t)) ∙ s.long;
+          long = length-set words now.at (link_word (f, t)) ∙ s.long;
           kept = λ k low high.
-              get_or-set_other words now.at k (linkWord (f, t)) 0 (λ (e : k ≡ now.at). omega (arith, s.rises)) ∙ s.kept k low high;
+              get_or-set_other words now.at k (link_word (f, t)) 0 (λ (e : k ≡ now.at). omega (arith, s.rises)) ∙ s.kept k low high;
           grows = omega (arith, s.grows, listed.least);
           queue-kept = λ i h. listed.kept i (omega (arith, s.grows)) ∙ s.queue-kept i h;
           fresh = λ i low high. fresh i low high (dec_lt i now.count);
@@ -199,13 +199,13 @@ module _ {leads : ℕ → Option (ℕ × ℕ)} {queue₀ words₀ : List ℕ} {k
 
 -- Row u of g is read up to place i, and the features of its rest are from `bound` on.
 pub record Read (g : List ℕ) (u i bound : ℕ) : Type 0 where
-  pub low : linksFrom g u ≤ i
-  pub high : i ≤ rowEnd g u
-  pub past : (k : ℕ) → linksFrom g u ≤ k → k < i → featureAt g k < bound
-  pub from : i < rowEnd g u → bound ≤ featureAt g i
+  pub low : links_from g u ≤ i
+  pub high : i ≤ row_end g u
+  pub past : (k : ℕ) → links_from g u ≤ k → k < i → feature_at g k < bound
+  pub from : i < row_end g u → bound ≤ feature_at g i
 
 module _ {g : List ℕ} (sound : Sound g) {u : ℕ} (node : u < size g) where
-  read_none : Read g u (linksFrom g u) 0
+  read_none : Read g u (links_from g u) 0
   read_none =
       record {
         low = omega arith;
@@ -216,34 +216,34 @@ module _ {g : List ℕ} (sound : Sound g) {u : ℕ} (node : u < size g) where
 
   module _ {i bound : ℕ} (r : Read g u i bound) where
     -- A feature from the bound on stands at a place that is not read.
-    read-place : (f w : ℕ) → bound ≤ f → (graphIn g).link u f ≡ some w → (i < rowEnd g u) × (featureAt g i ≤ f)
+    read-place : (f w : ℕ) → bound ≤ f → (graph_in g).link u f ≡ some w → (i < row_end g u) × (feature_at g i ≤ f)
     read-place f w up e =
         let (k, low, high, a, b) = link-place sound u f w node e in
         go k low high a (dec_lt k i) (ℕ_discrete k i)
       where
-        go : (k : ℕ) → linksFrom g u ≤ k → k < rowEnd g u → featureAt g k ≡ f → Dec (k < i) → Dec (k ≡ i) →
-            (i < rowEnd g u) × (featureAt g i ≤ f)
+        go : (k : ℕ) → links_from g u ≤ k → k < row_end g u → feature_at g k ≡ f → Dec (k < i) → Dec (k ≡ i) →
+            (i < row_end g u) × (feature_at g i ≤ f)
         go k low high a (yes h) d = absurd (omega (arith, r.past k low h))
-        go k low high a (no h) (yes d) = (omega arith, omega (arith, ap (λ (n : ℕ). featureAt g n) d))
+        go k low high a (no h) (yes d) = (omega arith, omega (arith, ap (λ (n : ℕ). feature_at g n) d))
         go k low high a (no h) (no d) = (
           omega arith,
           omega (
             arith,
-            features-rise g (rowEnd g u) (sound.shaped.node u node).ended (linksFrom g u) (λ n. sound.shaped.ascending u n node) (k - suc i) i k
+            features-rise g (row_end g u) (sound.shaped.node u node).ended (links_from g u) (λ n. sound.shaped.ascending u n node) (k - suc i) i k
                 r.low (omega arith) high,
           ),
         )
 
     -- A feature from the bound on that is below the next one is missing.
-    read_below : (f : ℕ) → bound ≤ f → (i < rowEnd g u → f < featureAt g i) → (graphIn g).link u f ≡ none
-    read_below f up h = go ((graphIn g).link u f) refl
+    read_below : (f : ℕ) → bound ≤ f → (i < row_end g u → f < feature_at g i) → (graph_in g).link u f ≡ none
+    read_below f up h = go ((graph_in g).link u f) refl
       where
-        go : (o : Option ℕ) → (graphIn g).link u f ≡ o → o ≡ none
+        go : (o : Option ℕ) → (graph_in g).link u f ≡ o → o ≡ none
         go none e = refl
         go (some w) e = let (inside, least) = read-place f w up e in absurd (omega (arith, h inside))
 
     -- The next place is read.
-    read_next : i < rowEnd g u → Read g u (i + 1) (suc (featureAt g i))
+    read_next : i < row_end g u → Read g u (i + 1) (suc (feature_at g i))
     read_next h =
         record {
           low = omega (arith, r.low);
@@ -252,12 +252,12 @@ module _ {g : List ℕ} (sound : Sound g) {u : ℕ} (node : u < size g) where
           from = λ n. sound.shaped.ascending u i node r.low n;
         }
       where
-        past : (k : ℕ) → linksFrom g u ≤ k → k < i + 1 → Dec (k ≡ i) → featureAt g k < suc (featureAt g i)
-        past k low high (yes d) = omega (arith, ap (λ (n : ℕ). featureAt g n) d)
+        past : (k : ℕ) → links_from g u ≤ k → k < i + 1 → Dec (k ≡ i) → feature_at g k < suc (feature_at g i)
+        past k low high (yes d) = omega (arith, ap (λ (n : ℕ). feature_at g n) d)
         past k low high (no d) = omega (arith, r.past k low (omega arith), r.from h)
 
     -- The bound rises up to the next feature.
-    read-on : (higher : ℕ) → bound ≤ higher → (i < rowEnd g u → higher ≤ featureAt g i) → Read g u i higher
+    read-on : (higher : ℕ) → bound ≤ higher → (i < row_end g u → higher ≤ feature_at g i) → Read g u i higher
     read-on higher up from =
         record {
           low = r.low;
@@ -276,8 +276,8 @@ pub record Begun (a b : List ℕ) (u v : ℕ) (words : List ℕ) (known : Spread
   pub right-node : v < size b
   pub long : length words ≤ 65535
   pub low : known.at + 64 ≤ length words
-  pub left_end : rowEnd a u < 65536
-  pub right_end : rowEnd b v < 65536
+  pub left_end : row_end a u < 65536
+  pub right_end : row_end b v < 65536
 
 module _ (a b : List ℕ) (u v : ℕ) (queue₀ words₀ : List ℕ) (known : Spread) where
   -- The links by features below `bound` are added, and both rows go on at the places i and j.
@@ -295,7 +295,7 @@ both_right (some x) = refl
 
 pub merge-start : {a b : List ℕ} {u v : ℕ} {marks₀ queue₀ words₀ : List ℕ} {known : Spread} → Begun a b u v words₀ known →
     Marked marks₀ queue₀ known.count →
-    Merging a b u v queue₀ words₀ known (linksFrom a u) (linksFrom b v) marks₀ queue₀ words₀ known
+    Merging a b u v queue₀ words₀ known (links_from a u) (links_from b v) marks₀ queue₀ words₀ known
 merge-start begun m =
     record {
       begun = begun;
@@ -315,59 +315,59 @@ module _ {a b : List ℕ} {u v : ℕ} {queue₀ words₀ : List ℕ} {known : Sp
   right-sound = s.begun.right.sound
 
   -- both rows end inside
-  pub merge-ended : (rowEnd a u ≤ length a) × (rowEnd b v ≤ length b)
+  pub merge-ended : (row_end a u ≤ length a) × (row_end b v ≤ length b)
   merge-ended =
       ((left-sound.shaped.node u s.begun.left-node).ended, (right-sound.shaped.node v s.begun.right-node).ended)
 
-  left-none : (f : ℕ) → s.bound ≤ f → (i < rowEnd a u → f < featureAt a i) → common a b (u, v) f ≡ none
+  left-none : (f : ℕ) → s.bound ≤ f → (i < row_end a u → f < feature_at a i) → common a b (u, v) f ≡ none
   left-none f low h =
-      ap (λ (o : Option ℕ). both o ((graphIn b).link v f)) (read_below left-sound s.begun.left-node s.left f low h)
+      ap (λ (o : Option ℕ). both o ((graph_in b).link v f)) (read_below left-sound s.begun.left-node s.left f low h)
 
-  right-none : (f : ℕ) → s.bound ≤ f → (j < rowEnd b v → f < featureAt b j) → common a b (u, v) f ≡ none
+  right-none : (f : ℕ) → s.bound ≤ f → (j < row_end b v → f < feature_at b j) → common a b (u, v) f ≡ none
   right-none f low h =
-      ap (both ((graphIn a).link u f)) (read_below right-sound s.begun.right-node s.right f low h) ∙ both_right ((graphIn a).link u f)
+      ap (both ((graph_in a).link u f)) (read_below right-sound s.begun.right-node s.right f low h) ∙ both_right ((graph_in a).link u f)
 
   -- If one of the rows is at its end, all links are added.
-  merge-done : (rowEnd a u ≤ i) ⊎ (rowEnd b v ≤ j) → Adds (common a b (u, v)) queue₀ words₀ known 64 marks queue words now
+  merge-done : (row_end a u ≤ i) ⊎ (row_end b v ≤ j) → Adds (common a b (u, v)) queue₀ words₀ known 64 marks queue words now
   merge-done over = adds-skip s.added 64 s.small (λ f low high. gone f low over)
     where
-      gone : (f : ℕ) → s.bound ≤ f → (rowEnd a u ≤ i) ⊎ (rowEnd b v ≤ j) → common a b (u, v) f ≡ none
+      gone : (f : ℕ) → s.bound ≤ f → (row_end a u ≤ i) ⊎ (row_end b v ≤ j) → common a b (u, v) f ≡ none
       gone f low (inl e) = left-none f low (λ h. absurd (omega arith))
       gone f low (inr e) = right-none f low (λ h. absurd (omega arith))
 
-  pub merge-spreads : (rowEnd a u ≤ i) ⊎ (rowEnd b v ≤ j) → Spreads (common a b (u, v)) queue₀ words₀ known marks queue words now
+  pub merge-spreads : (row_end a u ≤ i) ⊎ (row_end b v ≤ j) → Spreads (common a b (u, v)) queue₀ words₀ known marks queue words now
   merge-spreads over = record { added = λ h. merge-done over; full = λ h. absurd (omega (arith, s.added.after.few)) }
 
-  module _ (left_in : i < rowEnd a u) (right-in : j < rowEnd b v) where
-    left-known : featureAt a i < 64
+  module _ (left_in : i < row_end a u) (right-in : j < row_end b v) where
+    left-known : feature_at a i < 64
     left-known = left-sound.shaped.known u i s.begun.left-node s.left.low left_in
 
-    right-known : featureAt b j < 64
+    right-known : feature_at b j < 64
     right-known = right-sound.shaped.known v j s.begun.right-node s.right.low right-in
 
     -- The first row's feature is the lower one.
-    pub merge-left : featureAt a i < featureAt b j → Merging a b u v queue₀ words₀ known (i + 1) j marks queue words now
+    pub merge-left : feature_at a i < feature_at b j → Merging a b u v queue₀ words₀ known (i + 1) j marks queue words now
     merge-left less =
         record {
           begun = s.begun;
-          bound = suc (featureAt a i);
+          bound = suc (feature_at a i);
           small = omega (arith, left-known);
           left = read_next left-sound s.begun.left-node s.left left_in;
-          right = read-on right-sound s.begun.right-node s.right (suc (featureAt a i)) (omega (arith, s.left.from left_in)) (λ h. less);
-          added = adds-skip s.added (suc (featureAt a i)) (omega (arith, s.left.from left_in))
+          right = read-on right-sound s.begun.right-node s.right (suc (feature_at a i)) (omega (arith, s.left.from left_in)) (λ h. less);
+          added = adds-skip s.added (suc (feature_at a i)) (omega (arith, s.left.from left_in))
               (λ f low high. right-none f low (λ h. omega arith));
         }
 
     -- The second row's feature is the lower one.
-    pub merge-right : featureAt b j < featureAt a i → Merging a b u v queue₀ words₀ known i (j + 1) marks queue words now
+    pub merge-right : feature_at b j < feature_at a i → Merging a b u v queue₀ words₀ known i (j + 1) marks queue words now
     merge-right less =
         record {
           begun = s.begun;
-          bound = suc (featureAt b j);
+          bound = suc (feature_at b j);
           small = omega (arith, right-known);
-          left = read-on left-sound s.begun.left-node s.left (suc (featureAt b j)) (omega (arith, s.right.from right-in)) (λ h. less);
+          left = read-on left-sound s.begun.left-node s.left (suc (feature_at b j)) (omega (arith, s.right.from right-in)) (λ h. less);
           right = read_next right-sound s.begun.right-node s.right right-in;
-          added = adds-skip s.added (suc (featureAt b j)) (omega (arith, s.right.from right-in))
+          added = adds-skip s.added (suc (feature_at b j)) (omega (arith, s.right.from right-in))
               (λ f low high. left-none f low (λ h. omega arith));
         }
 
@@ -376,20 +376,20 @@ module _ {a b : List ℕ} {u v : ℕ} {queue₀ words₀ : List ℕ} {known : Sp
     merge-room = let k = s.left.from left_in in omega (arith, s.added.short, left-known, s.begun.low)
 
     -- the targets are nodes, and there is a mark for their pair
-    pub merge-nodes : (targetAt a i < 255) × (targetAt b j < 255)
+    pub merge-nodes : (target_at a i < 255) × (target_at b j < 255)
     merge-nodes = (
       omega (arith, left-sound.targets u i s.begun.left-node s.left.low left_in, s.begun.left.small),
       omega (arith, right-sound.targets v j s.begun.right-node s.right.low right-in, s.begun.right.small),
     )
 
     -- A feature of both leads to the pair of the targets.
-    leads-both : featureAt a i ≡ featureAt b j → common a b (u, v) (featureAt a i) ≡ some (targetAt a i, targetAt b j)
+    leads-both : feature_at a i ≡ feature_at b j → common a b (u, v) (feature_at a i) ≡ some (target_at a i, target_at b j)
     leads-both same =
         ap₂ both (link-at left-sound u i s.begun.left-node s.left.low left_in)
-        (ap ((graphIn b).link v) same ∙ link-at right-sound v j s.begun.right-node s.right.low right-in)
+        (ap ((graph_in b).link v) same ∙ link-at right-sound v j s.begun.right-node s.right.low right-in)
 
     -- No number is left for the pair of the targets.
-    pub merge-full : featureAt a i ≡ featureAt b j → now.count ≡ 255 → get_or marks (targetAt a i * 255 + targetAt b j) 0 ≡ clear →
+    pub merge-full : feature_at a i ≡ feature_at b j → now.count ≡ 255 → get_or marks (target_at a i * 255 + target_at b j) 0 ≡ clear →
         Full (common a b (u, v)) queue₀ words₀ known
     merge-full same given free =
         record {
@@ -400,8 +400,8 @@ module _ {a b : List ℕ} {u v : ℕ} {queue₀ words₀ : List ℕ} {known : Sp
           next = now;
           part = s.added;
           given = given;
-          feature = featureAt a i;
-          pair = (targetAt a i, targetAt b j);
+          feature = feature_at a i;
+          pair = (target_at a i, target_at b j);
           led = leads-both same;
           left = merge-nodes.0;
           right = merge-nodes.1;
@@ -409,9 +409,9 @@ module _ {a b : List ℕ} {u v : ℕ} {queue₀ words₀ : List ℕ} {known : Sp
         }
 
     -- The pair of the targets has a number.
-    pub merge-both : featureAt a i ≡ featureAt b j → (marks' queue' : List ℕ) (next : ℕ) →
-        Enlisted queue (targetAt a i * 255 + targetAt b j) now.count marks' queue' next →
-        (w : ℕ) → w ≡ linkWord (featureAt a i, get_or marks' (targetAt a i * 255 + targetAt b j) 0) →
+    pub merge-both : feature_at a i ≡ feature_at b j → (marks' queue' : List ℕ) (next : ℕ) →
+        Enlisted queue (target_at a i * 255 + target_at b j) now.count marks' queue' next →
+        (w : ℕ) → w ≡ link_word (feature_at a i, get_or marks' (target_at a i * 255 + target_at b j) 0) →
         Merging a b u v queue₀ words₀ known (i + 1) (j + 1) marks' queue' (set words now.at w)
         (record { at = now.at + 1; count = next })
     merge-both same marks' queue' next listed w word =
@@ -421,12 +421,12 @@ module _ {a b : List ℕ} {u v : ℕ} {queue₀ words₀ : List ℕ} {known : Sp
         (sym word)
         record {
           begun = s.begun;
-          bound = suc (featureAt a i);
+          bound = suc (feature_at a i);
           small = omega (arith, left-known);
           left = read_next left-sound s.begun.left-node s.left left_in;
           right =
               subst (λ (f : ℕ). Read b v (j + 1) (suc f)) (sym same) (read_next right-sound s.begun.right-node s.right right-in);
-          added = adds-link s.added (featureAt a i) (targetAt a i, targetAt b j) marks' queue' next (s.left.from left_in)
+          added = adds-link s.added (feature_at a i) (target_at a i, target_at b j) marks' queue' next (s.left.from left_in)
               (λ f low high. left-none f low (λ h. high)) (leads-both same) merge-nodes.0 merge-nodes.1
               (omega (arith, merge-room, s.added.long)) listed;
         }

@@ -4,7 +4,7 @@ use mathlib.Core.List.{List, Memᴰ}
 use Rattle.std.proofs.Math.Option.{Option, some}
 use Rattle.graphs.specs.Generalize.{both}
 use Rattle.graphs.specs.Large.{Ascending}
-use Rattle.layout.specs.Layout.{graphIn, linksBetween}
+use Rattle.layout.specs.Layout.{graph_in, links_between}
 use Rattle.layout.specs.Builder.{Same}
 use Rattle.product.specs.declared.Spread.{Spread}
 
@@ -41,7 +41,7 @@ pub record Offered (marks queue : List ℕ) (pair count : ℕ) (marks' queue' : 
 
 -- The pair that a feature of both leads to from a pair of nodes.
 abbrev pub common : List ℕ → List ℕ → ℕ × ℕ → ℕ → Option (ℕ × ℕ)
-common a b x f = both ((graphIn a).link x.0 f) ((graphIn b).link x.1 f)
+common a b x f = both ((graph_in a).link x.0 f) ((graph_in b).link x.1 f)
 
 -- The pair x stands in the queue at i.
 pub record Numbered (queue : List ℕ) (count : ℕ) (x : ℕ × ℕ) (i : ℕ) : Type 0 where
@@ -62,7 +62,7 @@ pub record Matched (leads : ℕ → Option (ℕ × ℕ)) (queue : List ℕ) (cou
 pub record Adds (leads : ℕ → Option (ℕ × ℕ)) (queue words : List ℕ) (known : Spread) (bound : ℕ) (marks' queue' words' : List ℕ)
     (next : Spread) : Type 0 where
   pub after : Marked marks' queue' next.count
-  pub row : Matched leads queue' next.count bound (linksBetween words' known.at next.at)
+  pub row : Matched leads queue' next.count bound (links_between words' known.at next.at)
   pub rises : known.at ≤ next.at
   pub short : next.at ≤ known.at + bound
   pub long : length words' ≡ length words

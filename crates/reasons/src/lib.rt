@@ -5,7 +5,7 @@
 ghost use Rattle.std.specs.Prelude.{◌≡◌, List, ℕ, ◌<◌, length};
 ghost use Rattle.layout.specs.Layout.{longest, size};
 ghost use Rattle.keeping.specs.Keeping.{Markable};
-ghost use Rattle.reasons.specs.Explaining.{Copied, Explains, ExplainsRow, reasonOf};
+ghost use Rattle.reasons.specs.Explaining.{Copied, Explains, ExplainsRow, reason_of};
 
 // Nothing of g lies over the link.
 pub const NOTHING_OVER: u8 = 1;
@@ -18,7 +18,7 @@ pub const WANTED: u8 = 3;
 
 // The reason for a link, by its mark and by what `meeting` has at the node that the link enters.
 fn reason_of(mark: u8, meeting: u8) -> u8
-    ensures { result ≡ reasonOf mark meeting }
+    ensures { result ≡ reason_of mark meeting }
 {
     if mark == groups::BARE {
         return NOTHING_OVER;

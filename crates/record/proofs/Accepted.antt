@@ -12,15 +12,15 @@ use lib.ListN.{length, get_or}
 use Rattle.graphs.specs.Graph.{AnySize, Reached}
 use Rattle.graphs.specs.Rows.{Row, from}
 use Rattle.graphs.specs.Number.{canonical, written}
-use Rattle.graphs.specs.Large.{linksIn}
+use Rattle.graphs.specs.Large.{links_in}
 use Rattle.graphs.proofs.Lists.{from-range, tells-eqb}
 use Rattle.graphs.proofs.Search.{true-false, not-true-false}
 use Rattle.graphs.proofs.Form.Large.{canonical-fits}
 use Rattle.lattice.specs.Label.{Label, no_label}
-use Rattle.lattice.specs.Labels.{tableLabels, Known, OfAnySize}
+use Rattle.lattice.specs.Labels.{table_labels, Known, OfAnySize}
 use Rattle.lattice.proofs.Lawful.{contradiction-parts, contradiction-from}
 use Rattle.peeling.proofs.Range.{LabelInRange}
-use Rattle.record.specs.Read.{graphOfRows, reading, accepted}
+use Rattle.record.specs.Read.{graph_of_rows, reading, accepted}
 use Rattle.record.proofs.Readings.{Stands, InRange, reading-says, in-range}
 use Rattle.decode.proofs.Decoded.{Proper, decoded-says}
 use Rattle.record.proofs.Labels.{SevenBits, decoded-types}
@@ -31,7 +31,7 @@ use Rattle.record.proofs.Reaching.{SelfReach, AllReached, cyclic-exact, reaches-
 pub record Rules (n : ℕ) (rows : List (Row Label)) : Type 0 where
   pub nonempty : 0 < length rows
   pub short : length rows ≤ 255
-  pub links : linksIn rows ≤ 2048
+  pub links : links_in rows ≤ 2048
   pub ordered : (r : Row Label) → Memᴰ r rows → Proper r
   pub types : SevenBits rows
   pub ranged : InRange n rows
@@ -73,12 +73,12 @@ accepted-rules n bytes rows ok = rules ((reading-says n bytes (accepted rows)).0
 
 -- A label of the table is in range exactly where it is no contradiction.
 module _ (n : ℕ) (t : List ℕ) {l : Label} where
-  in-range-consistent : LabelInRange n l → (tableLabels n t).contradiction l ≡ false
+  in-range-consistent : LabelInRange n l → (table_labels n t).contradiction l ≡ false
   in-range-consistent (nonzero, _, up) =
-      not-true-false ((tableLabels n t).contradiction l)
+      not-true-false ((table_labels n t).contradiction l)
       (λ e. ⊎_elim (λ (z : l.type ≡ 0). omega arith) (λ (h : l.highest < l.lowest). omega arith) (contradiction-parts n t l e))
 
-  pub consistent-in-range : Known n l → (tableLabels n t).contradiction l ≡ false → LabelInRange n l
+  pub consistent-in-range : Known n l → (table_labels n t).contradiction l ≡ false → LabelInRange n l
   consistent-in-range known e = (nonzero (ℕ_discrete l.type 0), known, up (dec_le l.lowest l.highest))
     where
       nonzero : Dec (l.type ≡ 0) → 0 < l.type
@@ -91,12 +91,12 @@ module _ (n : ℕ) (t : List ℕ) {l : Label} where
 
 module _ (n : ℕ) (rows : List (Row Label)) (rules : Rules n rows) where
   -- the label of a reached node is that of a row
-  reached-label : (P : Label → Type 0) → ((r : Row Label) → Memᴰ r rows → P r.0) → (v : ℕ) → Reached (graphOfRows rows) v →
-      P ((graphOfRows rows).label v)
+  reached-label : (P : Label → Type 0) → ((r : Row Label) → Memᴰ r rows → P r.0) → (v : ℕ) → Reached (graph_of_rows rows) v →
+      P ((graph_of_rows rows).label v)
   reached-label P each v r = each (get_or rows v (no_label, [])) (node_row rows v (reached-inside rows (rules-linked rules) v r))
 
   -- "A graph of any size keeps every rule of an accepted record but the counts"
-  rules-any-size : (t : List ℕ) → AnySize (tableLabels n t) (graphOfRows rows)
+  rules-any-size : (t : List ℕ) → AnySize (table_labels n t) (graph_of_rows rows)
   rules-any-size t =
       record {
         nodes = from 0 (length rows);
@@ -110,7 +110,7 @@ module _ (n : ℕ) (rows : List (Row Label)) (rules : Rules n rows) where
       }
 
   -- the graph has types below n
-  pub rules-of-any-size : (t : List ℕ) → OfAnySize n t (graphOfRows rows)
+  pub rules-of-any-size : (t : List ℕ) → OfAnySize n t (graph_of_rows rows)
   rules-of-any-size t =
       record {
         any-size = rules-any-size t;
@@ -118,7 +118,7 @@ module _ (n : ℕ) (rows : List (Row Label)) (rules : Rules n rows) where
       }
 
   -- the graph has types of seven bits
-  pub rules-types : (v : ℕ) → Reached (graphOfRows rows) v → ((graphOfRows rows).label v).type < 128
+  pub rules-types : (v : ℕ) → Reached (graph_of_rows rows) v → ((graph_of_rows rows).label v).type < 128
   rules-types = reached-label (λ l. l.type < 128) rules.types
 
   -- the nodes of the graph are the numbers of the rows
@@ -127,7 +127,7 @@ module _ (n : ℕ) (rows : List (Row Label)) (rules : Rules n rows) where
   rules-nodes t = refl
 
   -- neither count is passed, so there is a written form
-  pub rules-fit : (form : List (Row Label)) × (canonical eqb (graphOfRows rows) ≡ written form)
+  pub rules-fit : (form : List (Row Label)) × (canonical eqb (graph_of_rows rows) ≡ written form)
   rules-fit =
-      (canonical-fits eqb tells-eqb (graphOfRows rows) (narrow rows (rules-linked rules))).0
+      (canonical-fits eqb tells-eqb (graph_of_rows rows) (narrow rows (rules-linked rules))).0
       (few-nodes rows (rules-linked rules) rules.short, few-links rows rules.links)

@@ -10,12 +10,12 @@ use lib.Dec.{eqb, leb}
 use lib.ListN.{length, get_or}
 use Rattle.graphs.specs.Rows.{Row}
 use Rattle.graphs.proofs.Search.{both_true, true-both, true-false, not-true-false}
-use Rattle.graphs.proofs.Order.{allOf-true, true-allOf}
+use Rattle.graphs.proofs.Order.{all_of-true, true-all_of}
 use Rattle.lattice.specs.Label.{Label}
 use Rattle.lattice.specs.Table.{every}
 use Rattle.lattice.proofs.Every.{every-at, every-all}
 use Rattle.lattice.proofs.Lawful.{known_more}
-use Rattle.layout.specs.Layout.{size, linksFrom, rowEnd, label_at, linksAt, featureAt, rows_of}
+use Rattle.layout.specs.Layout.{size, links_from, row_end, label_at, links_at, feature_at, rows_of}
 use Rattle.layout.proofs.Rows.{rows-member, rows-source}
 use Rattle.layout.proofs.Spans.{links-at, links-member}
 use Rattle.record.specs.declared.GraphFault.{GraphFault}
@@ -23,25 +23,25 @@ use Rattle.record.specs.declared.GraphFault.TheVariants.{Inappropriate}
 use Rattle.record.specs.declared.reading.Verdict.{Verdict}
 use Rattle.record.specs.declared.reading.Verdict.TheVariants.{Accepted, Refused}
 use Rattle.record.specs.Read.{Reading, refused, accepted, reading}
-use Rattle.record.specs.Reads.{Holds, Reads, ReadsAs, verdictOf}
-use Rattle.record.specs.Appropriate.{listAccepted, allowed, rowAppropriate, appropriate, judgedAppropriate, readingAppropriate, Listed, Typed}
+use Rattle.record.specs.Reads.{Holds, Reads, ReadsAs, verdict_of}
+use Rattle.record.specs.Appropriate.{list_accepted, allowed, row_appropriate, appropriate, judged_appropriate, reading_appropriate, Listed, Typed}
 
 -- The list.
 
 module _ (n : ℕ) (list : List ℕ) where
-  pub list-accepted : length list ≡ 64 → ((f : ℕ) → f < 64 → get_or list f 0 < n) → listAccepted n list ≡ true
-  unfolding listAccepted
+  pub list-accepted : length list ≡ 64 → ((f : ℕ) → f < 64 → get_or list f 0 < n) → list_accepted n list ≡ true
+  unfolding list_accepted
   list-accepted long small =
       true-both (eqb (length list) 64) (every 64 λ f. leb (suc (get_or list f 0)) n) (eq-eqb (length list) 64 long)
       (every-all (λ f. leb (suc (get_or list f 0)) n) 64 (λ f h. le-leb (suc (get_or list f 0)) n (small f h)))
 
-  module _ (ok : listAccepted n list ≡ true) where
+  module _ (ok : list_accepted n list ≡ true) where
     pub list-long : length list ≡ 64
-    unfolding listAccepted
+    unfolding list_accepted
     list-long = eqb-true (length list) 64 (both_true (eqb (length list) 64) (every 64 λ f. leb (suc (get_or list f 0)) n) ok).0
 
     pub list-entry : (f : ℕ) → f < 64 → get_or list f 0 < n
-    unfolding listAccepted
+    unfolding list_accepted
     list-entry f h =
         leb-true (suc (get_or list f 0)) n
         (every-at (λ f. leb (suc (get_or list f 0)) n) 64 f
@@ -50,11 +50,11 @@ module _ (n : ℕ) (list : List ℕ) where
     pub list-listed : n ≤ 64 → Listed list
     list-listed few = record { long = list-long; small = λ f h. omega (arith, list-entry f h) }
 
-  pub list-short : (length list ≡ 64 → ⊥) → false ≡ listAccepted n list
-  list-short other = sym (not-true-false (listAccepted n list) (λ e. other (list-long e)))
+  pub list-short : (length list ≡ 64 → ⊥) → false ≡ list_accepted n list
+  list-short other = sym (not-true-false (list_accepted n list) (λ e. other (list-long e)))
 
-  pub list_over : (f : ℕ) → f < 64 → n ≤ get_or list f 0 → false ≡ listAccepted n list
-  list_over f h over = sym (not-true-false (listAccepted n list) (λ e. omega (arith, list-entry e f h)))
+  pub list_over : (f : ℕ) → f < 64 → n ≤ get_or list f 0 → false ≡ list_accepted n list
+  list_over f h over = sym (not-true-false (list_accepted n list) (λ e. omega (arith, list-entry e f h)))
 
 -- The entries before f are types.
 pub record Entries (n : ℕ) (list : List ℕ) (f : ℕ) : Type 0 where
@@ -73,7 +73,7 @@ entries-more {n} {list} {f} before inside here =
     go k h (yes e) = subst (λ (i : ℕ). get_or list i 0 < n) (sym e) here
     go k h (no d) = before.small k (omega arith)
 
-pub entries-all : {n : ℕ} {list : List ℕ} {f : ℕ} → Entries n list f → 64 ≤ f → true ≡ listAccepted n list
+pub entries-all : {n : ℕ} {list : List ℕ} {f : ℕ} → Entries n list f → 64 ≤ f → true ≡ list_accepted n list
 entries-all {n} {list} before end = sym (list-accepted n list before.long (λ k h. before.small k (omega (arith, before.high))))
 
 -- The links of node v before place k are allowed.
@@ -82,12 +82,12 @@ pub record RowAllowed (t list ws : List ℕ) (v kind k : ℕ) : Type 0 where
   pub typed : Typed ws
   pub inside : v < size ws
   pub kind-is : kind ≡ (label_at ws v).type
-  pub low : linksFrom ws v ≤ k
-  pub high : k ≤ rowEnd ws v
-  pub all : (j : ℕ) → linksFrom ws v ≤ j → j < k → allowed t list kind (featureAt ws j) ≡ true
+  pub low : links_from ws v ≤ k
+  pub high : k ≤ row_end ws v
+  pub all : (j : ℕ) → links_from ws v ≤ j → j < k → allowed t list kind (feature_at ws j) ≡ true
 
 module _ {t list ws : List ℕ} {v kind : ℕ} where
-  pub row-start : Listed list → Typed ws → v < size ws → kind ≡ (label_at ws v).type → RowAllowed t list ws v kind (linksFrom ws v)
+  pub row-start : Listed list → Typed ws → v < size ws → kind ≡ (label_at ws v).type → RowAllowed t list ws v kind (links_from ws v)
   row-start listed typed inside is =
       record {
         listed = listed;
@@ -103,17 +103,17 @@ module _ {t list ws : List ℕ} {v kind : ℕ} where
     pub row-kind : kind < 64
     row-kind = subst (λ (i : ℕ). i < 64) (sym before.kind-is) (before.typed.typed v before.inside).type
 
-    module _ (more : k < rowEnd ws v) where
+    module _ (more : k < row_end ws v) where
       pub row-place : k < length ws
       row-place = omega (arith, (before.typed.sound.shaped.node v before.inside).ended)
 
-      pub row-feature : featureAt ws k < 64
+      pub row-feature : feature_at ws k < 64
       row-feature = before.typed.sound.shaped.known v k before.inside before.low more
 
-      pub row-entry : get_or list (featureAt ws k) 0 < 64
-      row-entry = before.listed.small (featureAt ws k) row-feature
+      pub row-entry : get_or list (feature_at ws k) 0 < 64
+      row-entry = before.listed.small (feature_at ws k) row-feature
 
-      pub row_next : allowed t list kind (featureAt ws k) ≡ true → RowAllowed t list ws v kind (k + 1)
+      pub row_next : allowed t list kind (feature_at ws k) ≡ true → RowAllowed t list ws v kind (k + 1)
       row_next here =
           record {
             listed = before.listed;
@@ -125,83 +125,83 @@ module _ {t list ws : List ℕ} {v kind : ℕ} where
             all = λ j a b. go j a b (ℕ_discrete j k);
           }
         where
-          go : (j : ℕ) → linksFrom ws v ≤ j → j < k + 1 → Dec (j ≡ k) → allowed t list kind (featureAt ws j) ≡ true
-          go j a b (yes e) = subst (λ (i : ℕ). allowed t list kind (featureAt ws i) ≡ true) (sym e) here
+          go : (j : ℕ) → links_from ws v ≤ j → j < k + 1 → Dec (j ≡ k) → allowed t list kind (feature_at ws j) ≡ true
+          go j a b (yes e) = subst (λ (i : ℕ). allowed t list kind (feature_at ws i) ≡ true) (sym e) here
           go j a b (no d) = before.all j a (omega arith)
 
-      pub row_out : allowed t list kind (featureAt ws k) ≡ false → false ≡ rowAppropriate t list (label_at ws v, linksAt ws v)
-      unfolding rowAppropriate
+      pub row_out : allowed t list kind (feature_at ws k) ≡ false → false ≡ row_appropriate t list (label_at ws v, links_at ws v)
+      unfolding row_appropriate
       row_out never =
           sym
-          (not-true-false (rowAppropriate t list (label_at ws v, linksAt ws v)) λ e.
+          (not-true-false (row_appropriate t list (label_at ws v, links_at ws v)) λ e.
           true-false
-          (ap (λ (i : ℕ). allowed t list i (featureAt ws k)) before.kind-is ∙
-          allOf-true (linksAt ws v) (λ l. allowed t list (label_at ws v).type l.0) e _
-          (links-at ws (rowEnd ws v) (before.typed.sound.shaped.node v before.inside).ended
-          (rowEnd ws v - linksFrom ws v) (linksFrom ws v) (omega (arith, before.low)) k before.low more))
+          (ap (λ (i : ℕ). allowed t list i (feature_at ws k)) before.kind-is ∙
+          all_of-true (links_at ws v) (λ l. allowed t list (label_at ws v).type l.0) e _
+          (links-at ws (row_end ws v) (before.typed.sound.shaped.node v before.inside).ended
+          (row_end ws v - links_from ws v) (links_from ws v) (omega (arith, before.low)) k before.low more))
           never)
 
-    pub row-all : rowEnd ws v ≤ k → true ≡ rowAppropriate t list (label_at ws v, linksAt ws v)
-    unfolding rowAppropriate
+    pub row-all : row_end ws v ≤ k → true ≡ row_appropriate t list (label_at ws v, links_at ws v)
+    unfolding row_appropriate
     row-all end =
         sym
-        (true-allOf (linksAt ws v) (λ l. allowed t list (label_at ws v).type l.0) λ l m.
+        (true-all_of (links_at ws v) (λ l. allowed t list (label_at ws v).type l.0) λ l m.
         let node = before.typed.sound.shaped.node v before.inside in
         let (j, low, high, f, _) =
-        links-member ws (rowEnd ws v) node.ended (rowEnd ws v - linksFrom ws v) (linksFrom ws v) (omega (arith, node.begun)) l m in
+        links-member ws (row_end ws v) node.ended (row_end ws v - links_from ws v) (links_from ws v) (omega (arith, node.begun)) l m in
         ap (λ (i : ℕ). allowed t list (label_at ws v).type i) f ∙
-        ap (λ (i : ℕ). allowed t list i (featureAt ws j)) (sym before.kind-is) ∙ before.all j low (omega arith))
+        ap (λ (i : ℕ). allowed t list i (feature_at ws j)) (sym before.kind-is) ∙ before.all j low (omega arith))
 
 -- The rows before v are allowed.
 pub record RowsAllowed (t list ws : List ℕ) (v : ℕ) : Type 0 where
   pub high : v ≤ size ws
-  pub all : (u : ℕ) → u < v → rowAppropriate t list (label_at ws u, linksAt ws u) ≡ true
+  pub all : (u : ℕ) → u < v → row_appropriate t list (label_at ws u, links_at ws u) ≡ true
 
 module _ {t list ws : List ℕ} where
   pub rows_none : RowsAllowed t list ws 0
   rows_none = record { high = omega arith; all = λ u h. absurd (omega arith) }
 
   module _ {v : ℕ} (before : RowsAllowed t list ws v) where
-    pub rows_more : v < size ws → rowAppropriate t list (label_at ws v, linksAt ws v) ≡ true → RowsAllowed t list ws (v + 1)
+    pub rows_more : v < size ws → row_appropriate t list (label_at ws v, links_at ws v) ≡ true → RowsAllowed t list ws (v + 1)
     rows_more inside here = record { high = omega arith; all = λ u h. go u h (ℕ_discrete u v) }
       where
-        go : (u : ℕ) → u < v + 1 → Dec (u ≡ v) → rowAppropriate t list (label_at ws u, linksAt ws u) ≡ true
-        go u h (yes e) = subst (λ (i : ℕ). rowAppropriate t list (label_at ws i, linksAt ws i) ≡ true) (sym e) here
+        go : (u : ℕ) → u < v + 1 → Dec (u ≡ v) → row_appropriate t list (label_at ws u, links_at ws u) ≡ true
+        go u h (yes e) = subst (λ (i : ℕ). row_appropriate t list (label_at ws i, links_at ws i) ≡ true) (sym e) here
         go u h (no d) = before.all u (omega arith)
 
     pub rows_all : size ws ≤ v → true ≡ appropriate t list (rows_of ws)
     unfolding appropriate
     rows_all end =
         sym
-        (true-allOf (rows_of ws) (rowAppropriate t list) λ r m.
+        (true-all_of (rows_of ws) (row_appropriate t list) λ r m.
         let (u, h, e) = rows-source ws (size ws) 0 r m in
-        ap (rowAppropriate t list) e ∙ before.all u (omega arith))
+        ap (row_appropriate t list) e ∙ before.all u (omega arith))
 
-pub rows_out : (t list ws : List ℕ) (v : ℕ) → v < size ws → rowAppropriate t list (label_at ws v, linksAt ws v) ≡ false →
+pub rows_out : (t list ws : List ℕ) (v : ℕ) → v < size ws → row_appropriate t list (label_at ws v, links_at ws v) ≡ false →
     false ≡ appropriate t list (rows_of ws)
 unfolding appropriate
 rows_out t list ws v inside never =
     sym
     (not-true-false (appropriate t list (rows_of ws)) λ e.
     true-false
-    (allOf-true (rows_of ws) (rowAppropriate t list) e _ (rows-member ws (size ws) 0 v v (omega arith) inside))
+    (all_of-true (rows_of ws) (row_appropriate t list) e _ (rows-member ws (size ws) 0 v v (omega arith) inside))
     never)
 
 -- Reading.
 
 module _ (n : ℕ) (t list bytes : List ℕ) where
   -- the refusals of reading stay
-  pub refused-appropriate : (fault : GraphFault) → reading n bytes ≡ refused fault → readingAppropriate n t list bytes ≡ refused fault
-  unfolding readingAppropriate
-  refused-appropriate fault e = ap (judgedAppropriate t list) e
+  pub refused-appropriate : (fault : GraphFault) → reading n bytes ≡ refused fault → reading_appropriate n t list bytes ≡ refused fault
+  unfolding reading_appropriate
+  refused-appropriate fault e = ap (judged_appropriate t list) e
 
   pub judged-appropriate : (rows : List (Row Label)) → reading n bytes ≡ accepted rows →
-      readingAppropriate n t list bytes ≡ cond (appropriate t list rows) (accepted rows) (refused Inappropriate)
-  unfolding readingAppropriate
-  judged-appropriate rows e = ap (judgedAppropriate t list) e
+      reading_appropriate n t list bytes ≡ cond (appropriate t list rows) (accepted rows) (refused Inappropriate)
+  unfolding reading_appropriate
+  judged-appropriate rows e = ap (judged_appropriate t list) e
 
   -- what is accepted beside the list is accepted, and obeys the list
-  pub accepted-appropriate : (rows : List (Row Label)) → readingAppropriate n t list bytes ≡ accepted rows →
+  pub accepted-appropriate : (rows : List (Row Label)) → reading_appropriate n t list bytes ≡ accepted rows →
       (reading n bytes ≡ accepted rows) × (appropriate t list rows ≡ true)
   accepted-appropriate rows e = go (reading n bytes) refl
     where
@@ -219,26 +219,26 @@ module _ (n : ℕ) (t list bytes : List ℕ) where
       go (accepted others) q = both others q (appropriate t list others) refl (sym (judged-appropriate others q) ∙ e)
 
   module _ {ws : List ℕ} {v : Verdict} (reads : Reads n bytes v ws) where
-    tells-refused : (fault : GraphFault) → readingAppropriate n t list bytes ≡ refused fault →
-        ReadsAs n (readingAppropriate n t list bytes) (Refused fault) ws
+    tells-refused : (fault : GraphFault) → reading_appropriate n t list bytes ≡ refused fault →
+        ReadsAs n (reading_appropriate n t list bytes) (Refused fault) ws
     tells-refused fault e =
         record {
-          verdict = ap verdictOf (sym e);
+          verdict = ap verdict_of (sym e);
           graph = λ rows q.
               let d : refused fault ≡ accepted rows = sym e ∙ q in
               let z : ◌≡◌ {A = ℕ} 0 1 = cc in absurd (omega arith);
         }
 
     -- 4 to 7
-    pub reads-refused : (fault : GraphFault) → v ≡ Refused fault → ReadsAs n (readingAppropriate n t list bytes) (Refused fault) ws
+    pub reads-refused : (fault : GraphFault) → v ≡ Refused fault → ReadsAs n (reading_appropriate n t list bytes) (Refused fault) ws
     reads-refused fault e = tells-refused fault (refused-appropriate fault (go (reading n bytes) refl))
       where
         go : (o : Reading) → reading n bytes ≡ o → reading n bytes ≡ refused fault
         go (refused other) q =
-            let h : ◌≡◌ {A = Verdict} (Refused other) (Refused fault) = sym (reads.verdict ∙ ap verdictOf q) ∙ e in
+            let h : ◌≡◌ {A = Verdict} (Refused other) (Refused fault) = sym (reads.verdict ∙ ap verdict_of q) ∙ e in
             let k : other ≡ fault = cc in
             q ∙ ap refused k
-        go (accepted rows) q = let z : ◌≡◌ {A = ℕ} 0 1 = cc (reads.verdict, ap verdictOf q) in absurd (omega arith)
+        go (accepted rows) q = let z : ◌≡◌ {A = ℕ} 0 1 = cc (reads.verdict, ap verdict_of q) in absurd (omega arith)
 
     module _ (e : v ≡ Accepted) where
       -- the words hold the rows that were read
@@ -250,7 +250,7 @@ module _ (n : ℕ) (t list bytes : List ℕ) where
       held = go (reading n bytes) refl
         where
           go : (o : Reading) → reading n bytes ≡ o → Held
-          go (refused fault) q = let z : ◌≡◌ {A = ℕ} 0 1 = cc (reads.verdict, ap verdictOf q) in absurd (omega arith)
+          go (refused fault) q = let z : ◌≡◌ {A = ℕ} 0 1 = cc (reads.verdict, ap verdict_of q) in absurd (omega arith)
           go (accepted rows) q =
               let h = reads.graph rows q in
               record {
@@ -262,17 +262,17 @@ module _ (n : ℕ) (t list bytes : List ℕ) where
       reads-typed few = record { sound = held.holds.sound; typed = λ u h. known_more few (held.holds.typed u h) }
 
       -- 18
-      pub reads-inappropriate : appropriate t list (rows_of ws) ≡ false → ReadsAs n (readingAppropriate n t list bytes) (Refused Inappropriate) ws
+      pub reads-inappropriate : appropriate t list (rows_of ws) ≡ false → ReadsAs n (reading_appropriate n t list bytes) (Refused Inappropriate) ws
       reads-inappropriate never =
           tells-refused Inappropriate
           (judged-appropriate (rows_of ws) held.is ∙ ap (λ (b : Bool). cond b (accepted (rows_of ws)) (refused Inappropriate)) never)
 
-      pub reads-appropriate : appropriate t list (rows_of ws) ≡ true → ReadsAs n (readingAppropriate n t list bytes) Accepted ws
+      pub reads-appropriate : appropriate t list (rows_of ws) ≡ true → ReadsAs n (reading_appropriate n t list bytes) Accepted ws
       reads-appropriate obeys =
-          let is : readingAppropriate n t list bytes ≡ accepted (rows_of ws) =
+          let is : reading_appropriate n t list bytes ≡ accepted (rows_of ws) =
           judged-appropriate (rows_of ws) held.is ∙ ap (λ (b : Bool). cond b (accepted (rows_of ws)) (refused Inappropriate)) obeys in
           record {
-            verdict = ap verdictOf (sym is);
+            verdict = ap verdict_of (sym is);
             graph = λ rows q.
                 let same : rows ≡ rows_of ws = cc (sym is ∙ q) in
                 subst (λ (rs : List (Row Label)). Holds n rs ws) (sym same) held.holds;

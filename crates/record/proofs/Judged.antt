@@ -16,8 +16,8 @@ use Rattle.peeling.proofs.Range.{label-in-range}
 use Rattle.record.specs.declared.GraphFault.{GraphFault}
 use Rattle.record.specs.declared.GraphFault.TheVariants.{OutOfRange, Cyclic, Unreached}
 use Rattle.record.specs.declared.reading.Verdict.TheVariants.{Accepted, Refused}
-use Rattle.record.specs.Read.{Reading, refused, accepted, judged, in_range, cyclic, reachesAll}
-use Rattle.record.specs.Reads.{ReadsAs, verdictOf}
+use Rattle.record.specs.Read.{Reading, refused, accepted, judged, in_range, cyclic, reaches_all}
+use Rattle.record.specs.Reads.{ReadsAs, verdict_of}
 use Rattle.record.proofs.Readings.{in-range}
 use Rattle.record.proofs.Nodes.{Linked}
 use Rattle.record.proofs.Reaching.{cyclic-exact}
@@ -27,7 +27,7 @@ use Rattle.record.proofs.Words.{ranged-rows, rows-ranged, ranged-linked, looped-
 pub refuses : (n : ℕ) (o : Reading) (ws : List ℕ) (fault : GraphFault) → o ≡ refused fault → ReadsAs n o (Refused fault) ws
 refuses n o ws fault e =
     record {
-      verdict = ap verdictOf (sym e);
+      verdict = ap verdict_of (sym e);
       graph = λ rows h.
           let both : accepted rows ≡ refused fault = sym h ∙ e in
           let z : ◌≡◌ {A = ℕ} 0 1 = cc in absurd (omega arith);
@@ -39,7 +39,7 @@ module _ (n : ℕ) {ws : List ℕ} (shaped : Shaped ws) (small : size ws ≤ 255
 
   -- the tests behind the first
   abbrev later : Reading
-  later = cond (cyclic own) (refused Cyclic) (cond (reachesAll own) (accepted own) (refused Unreached))
+  later = cond (cyclic own) (refused Cyclic) (cond (reaches_all own) (accepted own) (refused Unreached))
 
   -- 5
   pub out_of_range : {passed : Bool} {incoming : List ℕ} → Count n ws passed incoming → passed ≡ false →
@@ -68,9 +68,9 @@ module _ (n : ℕ) {ws : List ℕ} (shaped : Shaped ws) (small : size ws ≤ 255
     judged-later : judged n (some own) ≡ later
     judged-later = ap (λ (b : Bool). cond b later (refused OutOfRange)) range-passes
 
-    judged-acyclic : cyclic own ≡ false → judged n (some own) ≡ cond (reachesAll own) (accepted own) (refused Unreached)
+    judged-acyclic : cyclic own ≡ false → judged n (some own) ≡ cond (reaches_all own) (accepted own) (refused Unreached)
     judged-acyclic e =
-        judged-later ∙ ap (λ (b : Bool). cond b (refused Cyclic) (cond (reachesAll own) (accepted own) (refused Unreached))) e
+        judged-later ∙ ap (λ (b : Bool). cond b (refused Cyclic) (cond (reaches_all own) (accepted own) (refused Unreached))) e
 
     module _ {shape : Shape} (peels : Peels ws shape) where
       -- 6
@@ -79,7 +79,7 @@ module _ (n : ℕ) {ws : List ℕ} (shaped : Shaped ws) (small : size ws ≤ 255
           let (v, loop) = peels.cyclic-stands e in
           let found : cyclic own ≡ true = (cyclic-exact own rows-linked).1 (looped-rows sound v loop) in
           refuses n (judged n (some own)) ws Cyclic
-          (judged-later ∙ ap (λ (b : Bool). cond b (refused Cyclic) (cond (reachesAll own) (accepted own) (refused Unreached))) found)
+          (judged-later ∙ ap (λ (b : Bool). cond b (refused Cyclic) (cond (reaches_all own) (accepted own) (refused Unreached))) found)
 
       no-cycle : (shape ≡ shapes.Cyclic → ⊥) → cyclic own ≡ false
       no-cycle other =
@@ -97,7 +97,7 @@ module _ (n : ℕ) {ws : List ℕ} (shaped : Shaped ws) (small : size ws ≤ 255
       pub accepts : shape ≡ shapes.Rooted → ReadsAs n (judged n (some own)) Accepted ws
       accepts e =
           record {
-            verdict = ap verdictOf (sym is);
+            verdict = ap verdict_of (sym is);
             graph = λ rows e.
                 record {
                   rows_are = alike rows e;
@@ -110,7 +110,7 @@ module _ (n : ℕ) {ws : List ℕ} (shaped : Shaped ws) (small : size ws ≤ 255
           other : shape ≡ shapes.Cyclic → ⊥
           other q = let z : ◌≡◌ {A = ℕ} 0 1 = cc in omega arith
 
-          reached : reachesAll own ≡ true
+          reached : reaches_all own ≡ true
           reached =
               let (place, sorted) = peels.sorted other in
               entered-reaches sound rows-linked sorted small (peels.rooted-stands e)

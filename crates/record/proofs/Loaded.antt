@@ -4,7 +4,7 @@ use mathlib.Core.List.{List}
 use native.Mathlib.Omega.{arith}
 use Rattle.graphs.specs.Graph.{Reached}
 use Rattle.lattice.proofs.Lawful.{known_more}
-use Rattle.layout.specs.Layout.{Recorded, size, rows_of, graphIn}
+use Rattle.layout.specs.Layout.{Recorded, size, rows_of, graph_in}
 use Rattle.layout.proofs.Rows.{length-rows}
 use Rattle.encoder.specs.Encode.{encoded}
 use Rattle.record.specs.Reads.{Loaded}
@@ -13,7 +13,7 @@ use Rattle.record.proofs.Accepted.{Rules, accepted-rules}
 pub loaded-rules : {n : ℕ} {ws : List ℕ} → Loaded n ws → Rules n (rows_of ws)
 loaded-rules {n} {ws} given = accepted-rules n (encoded (rows_of ws)) (rows_of ws) given.acceptable
 
-pub loaded-reached : {n : ℕ} {ws : List ℕ} → Loaded n ws → (v : ℕ) → v < size ws → Reached (graphIn ws) v
+pub loaded-reached : {n : ℕ} {ws : List ℕ} → Loaded n ws → (v : ℕ) → v < size ws → Reached (graph_in ws) v
 loaded-reached {ws = ws} given v h = (loaded-rules given).reached v (omega (arith, length-rows ws 0 (size ws)))
 
 -- such words hold the graph of a record over a table

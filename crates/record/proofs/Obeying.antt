@@ -18,12 +18,12 @@ use Rattle.graphs.specs.Unify.{Joined, left, right, flip, chain, down}
 use Rattle.graphs.proofs.Walk.{follow-last, walk-snoc}
 use Rattle.graphs.proofs.Lists.{tells-eqb}
 use Rattle.graphs.proofs.Search.{true-false}
-use Rattle.graphs.proofs.Order.{allOf-true, true-allOf}
+use Rattle.graphs.proofs.Order.{all_of-true, true-all_of}
 use Rattle.graphs.proofs.Below.{same_refl}
 use Rattle.graphs.proofs.Decided.{refute-on-numbers}
 use Rattle.graphs.proofs.Product.{product-is-generalization}
 use Rattle.lattice.specs.Label.{Label, no_label}
-use Rattle.lattice.specs.Labels.{tableLabels, OfAnySize, LeastOfAnySize, GreatestOfAnySize, IsCombination}
+use Rattle.lattice.specs.Labels.{table_labels, OfAnySize, LeastOfAnySize, GreatestOfAnySize, IsCombination}
 use Rattle.lattice.specs.Table as types
 use Rattle.lattice.proofs.Laws.{zero-type, below-transitive, join-exists}
 use Rattle.lattice.proofs.Lawful.{inside}
@@ -31,8 +31,8 @@ use Rattle.lattice.proofs.Relabel.{same-below-right}
 use Rattle.lattice.proofs.Transfer.{same-of-any-size}
 use Rattle.lattice.proofs.AnySize.{below_both, generalization-least, greatest-unique, greatest-sides, same-greatest, unification-exists, unification-combination, unification-greatest}
 use Rattle.encode.proofs.Links.{target-member}
-use Rattle.record.specs.Read.{graphOfRows}
-use Rattle.record.specs.Appropriate.{listAccepted, allowed, rowAppropriate, appropriate, Appropriate}
+use Rattle.record.specs.Read.{graph_of_rows}
+use Rattle.record.specs.Appropriate.{list_accepted, allowed, row_appropriate, appropriate, Appropriate}
 use Rattle.record.proofs.Nodes.{target-source, node_row, reached-inside}
 use Rattle.record.proofs.Accepted.{Rules, rules-linked}
 use Rattle.record.proofs.Allowed.{list-long, list-entry}
@@ -48,17 +48,17 @@ row-node (x ∷ rows) r m =
 
 module _ (n : ℕ) (t list : List ℕ) (rows : List (Row Label)) (rules : Rules n rows) where
   -- the test is the condition over paths
-  pub appropriate-exact : (appropriate t list rows ≡ true) ↔ Appropriate t list (graphOfRows rows)
-  unfolding appropriate rowAppropriate
+  pub appropriate-exact : (appropriate t list rows ≡ true) ↔ Appropriate t list (graph_of_rows rows)
+  unfolding appropriate row_appropriate
   appropriate-exact = (
     λ e p v w f d l.
         let row : Row Label = get_or rows v (no_label, []) in
-        allOf-true row.1 (λ l. allowed t list row.0.type l.0)
-        (allOf-true rows (rowAppropriate t list) e row (node_row rows v (reached-inside rows (rules-linked rules) v (p, d)))) (f, w)
+        all_of-true row.1 (λ l. allowed t list row.0.type l.0)
+        (all_of-true rows (row_appropriate t list) e row (node_row rows v (reached-inside rows (rules-linked rules) v (p, d)))) (f, w)
         (target-source row.1 f w l),
     λ all.
-        true-allOf rows (rowAppropriate t list) λ r m.
-        true-allOf r.1 (λ l. allowed t list r.0.type l.0) λ l i.
+        true-all_of rows (row_appropriate t list) λ r m.
+        true-all_of r.1 (λ l. allowed t list r.0.type l.0) λ l i.
         let (v, h, e) = row-node rows r m in
         let (p, d) = rules.reached v h in
         ap (λ (x : Row Label). allowed t list x.0.type l.0) (sym e) ∙
@@ -67,7 +67,7 @@ module _ (n : ℕ) (t list : List ℕ) (rows : List (Row Label)) (rules : Rules 
   )
 
 -- graphs of one meaning obey the same lists
-pub appropriate-same : (n : ℕ) (t list : List ℕ) {A B : Type 0} (g : Graph Label A) (h : Graph Label B) → SameMeaning (tableLabels n t) g h →
+pub appropriate-same : (n : ℕ) (t list : List ℕ) {A B : Type 0} (g : Graph Label A) (h : Graph Label B) → SameMeaning (table_labels n t) g h →
     Appropriate t list g → Appropriate t list h
 appropriate-same n t list g h same obeys p v w f e l =
     let (x, d, k) = same.back p v e in
@@ -124,7 +124,7 @@ module _ {L A B : Type 0} (g : Graph L A) (h : Graph L B) where
         (subst (λ (s : List ℕ). Goes s f) same (goes-joined f (flip j) ((joined-ends self).0 p f refl))),
   )
 
-module _ (n : ℕ) (t : List ℕ) (ok : types.accepted n t ≡ true) (list : List ℕ) (listed : listAccepted n list ≡ true) where
+module _ (n : ℕ) (t : List ℕ) (ok : types.accepted n t ≡ true) (list : List ℕ) (listed : list_accepted n list ≡ true) where
   -- an entry is a type, and behind the list stands 0
   entry-type : (f : ℕ) → get_or list f 0 < n
   entry-type f = go (dec_lt f 64)
@@ -137,7 +137,7 @@ module _ (n : ℕ) (t : List ℕ) (ok : types.accepted n t ≡ true) (list : Lis
   module _ {A B : Type 0} (g : Graph Label A) (h : Graph Label B) (a : OfAnySize n t g) (b : OfAnySize n t h) (x : Appropriate t list g)
       (y : Appropriate t list h) where
     -- The common part obeys the list: its paths are paths of both, and the join of two types below an entry is below the entry.
-    pub common-obeys : {C : Type 0} (k : Graph Label C) → IsGeneralization (tableLabels n t) g h k → Appropriate t list k
+    pub common-obeys : {C : Type 0} (k : Graph Label C) → IsGeneralization (table_labels n t) g h k → Appropriate t list k
     common-obeys k is p v w f e l =
         let (i, j, d, c, q) = is.there p v e in
         let (i', j', d', c', _) = is.there (p ++ (f ∷ [])) w (walk-snoc k p f e ∙ l) in
@@ -150,14 +150,14 @@ module _ (n : ℕ) (t : List ℕ) (ok : types.accepted n t ≡ true) (list : Lis
     -- The least graph of any size above both obeys the list.
     pub least-obeys : {C : Type 0} (k : Graph Label C) → LeastOfAnySize n t g h k → Appropriate t list k
     least-obeys k best =
-        let product = generalization (tableLabels n t) g h in
+        let product = generalization (table_labels n t) g h in
         let least = generalization-least n t ok g h a b in
         appropriate-same n t list product k
         ((below_both n t ok product k least.of-any-size best.of-any-size).1 (
           least.least k best.of-any-size best.left best.right,
           best.least product least.of-any-size least.left least.right,
         ))
-        (common-obeys product (product-is-generalization (tableLabels n t) g h))
+        (common-obeys product (product-is-generalization (table_labels n t) g h))
 
     -- The combination obeys the list: a class goes on by a feature where one of its paths does, and its type is below the type there.
     pub combination-obeys : {C : Type 0} (u : Graph Label C) → IsCombination n t g h u → Appropriate t list u

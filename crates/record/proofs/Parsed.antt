@@ -12,7 +12,7 @@ use lib.ListN.{length}
 use Rattle.graphs.specs.Rows.{Row}
 use Rattle.graphs.proofs.Search.{true-false}
 use Rattle.lattice.specs.Label.{Label, plain}
-use Rattle.layout.specs.Layout.{size, label_at, linksAt, rows_of, Shaped}
+use Rattle.layout.specs.Layout.{size, label_at, links_at, rows_of, Shaped}
 use Rattle.layout.proofs.Rows.{rows-member}
 use Rattle.decode.specs.Decode.{decoded}
 use Rattle.decode.specs.Answers.{Held, Parses}
@@ -22,7 +22,7 @@ use Rattle.record.specs.declared.GraphFault.TheVariants.{Malformed}
 use Rattle.record.specs.declared.reading.Verdict.{Verdict}
 use Rattle.record.specs.declared.reading.Verdict.TheVariants.{Refused}
 use Rattle.record.specs.Read.{Reading, judged, reading}
-use Rattle.record.specs.Reads.{Reads, ReadsAs, unrangedLength}
+use Rattle.record.specs.Reads.{Reads, ReadsAs, unranged_length}
 use Rattle.record.proofs.Judged.{refuses}
 use Rattle.record.proofs.Words.{held-length}
 
@@ -66,12 +66,12 @@ module _ {bytes : List ℕ} {ws : List ℕ} {parsed : Bool} (parses : Parses byt
     facts = decoded-says bytes (rows_of ws) given.is
 
     -- a record without bytes for levels states labels with the full range
-    pub levels-ordered : {ranged : Bool} → ranged ≡ not (eqb (length bytes) (unrangedLength ws)) → ranged ≡ false → LevelsOrdered ws
+    pub levels-ordered : {ranged : Bool} → ranged ≡ not (eqb (length bytes) (unranged_length ws)) → ranged ≡ false → LevelsOrdered ws
     levels-ordered e unranged v h =
-        let same : length bytes ≡ unrangedLength ws =
-        eqb-true (length bytes) (unrangedLength ws) (not-false (eqb (length bytes) (unrangedLength ws)) (sym e ∙ unranged)) in
+        let same : length bytes ≡ unranged_length ws =
+        eqb-true (length bytes) (unranged_length ws) (not-false (eqb (length bytes) (unranged_length ws)) (sym e ∙ unranged)) in
         let full : label_at ws v ≡ plain (label_at ws v).type =
-        facts.unranged (omega (arith, same, held-length ws)) (label_at ws v, linksAt ws v) (rows-member ws (size ws) 0 v v (omega arith) h) in
+        facts.unranged (omega (arith, same, held-length ws)) (label_at ws v, links_at ws v) (rows-member ws (size ws) 0 v v (omega arith) h) in
         omega (arith, ap (λ (l : Label). l.lowest) full, ap (λ (l : Label). l.highest) full)
 
     -- 5 to 7, and acceptance

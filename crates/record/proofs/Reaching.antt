@@ -18,22 +18,22 @@ use Rattle.graphs.specs.Unify.{deep, holds}
 use Rattle.graphs.specs.Large.{Distinct}
 use Rattle.graphs.proofs.Walk.{follow-nil, reached-root, reached-link}
 use Rattle.graphs.proofs.Lists.{from_member, from-range, length_from, distinct_from, distinct-bound, tells-eqb, full-list}
-use Rattle.graphs.proofs.Search.{true-false, anyOf-true, anyOf-finds}
+use Rattle.graphs.proofs.Search.{true-false, any_of-true, any_of-finds}
 use Rattle.graphs.proofs.Unification.Deep.{deep-walk, walk-deep, long-loop, loop-walk}
 use Rattle.graphs.proofs.Form.Visited.{visit-many}
 use Rattle.graphs.proofs.Form.Canonical.{seen-reached, reached-seen, seen-distinct, seen-short}
 use Rattle.lattice.specs.Label.{Label}
-use Rattle.record.specs.Read.{graphOfRows, cyclic, reachesAll}
+use Rattle.record.specs.Read.{graph_of_rows, cyclic, reaches_all}
 use Rattle.record.proofs.Nodes.{Linked, link-small, follow-inside, reached-inside, reached-listed, narrow, few-nodes}
 
 -- "a node reaches itself"
 abbrev pub SelfReach : List (Row Label) → Type 0
 SelfReach rows =
-    (v : ℕ) × (v < length rows) × (f : ℕ) × (p : List ℕ) × (follow (graphOfRows rows).link (some v) (f ∷ p) ≡ some v)
+    (v : ℕ) × (v < length rows) × (f : ℕ) × (p : List ℕ) × (follow (graph_of_rows rows).link (some v) (f ∷ p) ≡ some v)
 
 -- there is no "node the root does not reach"
 abbrev pub AllReached : List (Row Label) → Type 0
-AllReached rows = (v : ℕ) → v < length rows → Reached (graphOfRows rows) v
+AllReached rows = (v : ℕ) → v < length rows → Reached (graph_of_rows rows) v
 
 module _ (rows : List (Row Label)) (linked : Linked rows) where
   pub cyclic-exact : (cyclic rows ≡ true) ↔ SelfReach rows
@@ -44,11 +44,11 @@ module _ (rows : List (Row Label)) (linked : Linked rows) where
       count = length rows
 
       link : ℕ → ℕ → Option ℕ
-      link = (graphOfRows rows).link
+      link = (graph_of_rows rows).link
 
       there : cyclic rows ≡ true → SelfReach rows
       there e =
-          let (v, m, d) = anyOf-true (λ v. deep link count v) (from 0 count) e in
+          let (v, m, d) = any_of-true (λ v. deep link count v) (from 0 count) e in
           let inside = from-range 0 count v m in
           let (p, x, n, w) = deep-walk link count v d in
           let (y, f, q, (a, to), loop) = long-loop link eqb tells-eqb p v x (from 0 count)
@@ -59,28 +59,28 @@ module _ (rows : List (Row Label)) (linked : Linked rows) where
       back : SelfReach rows → cyclic rows ≡ true
       back (v, h, f, p, e) =
           let (q, x, w, long) = loop-walk link (some v) (v, f, p, ([], follow-nil link (some v)), e) count in
-          anyOf-finds (λ v. deep link count v) (from 0 count) v (from_member 0 count v (omega arith) (omega arith))
+          any_of-finds (λ v. deep link count v) (from 0 count) v (from_member 0 count v (omega arith) (omega arith))
           (walk-deep link count v q x (λ q y z f _ l. link-small rows linked y z f l) w long)
 
   -- the nodes that the visit lists are 255 at the most, so the test also says that there are no more rows
-  pub reaches-exact : (reachesAll rows ≡ true) ↔ ((length rows ≤ 255) × AllReached rows)
-  unfolding reachesAll
-  reaches-exact = go (visit eqb (graphOfRows rows).link 255 0 []) refl
+  pub reaches-exact : (reaches_all rows ≡ true) ↔ ((length rows ≤ 255) × AllReached rows)
+  unfolding reaches_all
+  reaches-exact = go (visit eqb (graph_of_rows rows).link 255 0 []) refl
     where
-      go : (o : Option (List ℕ)) → visit eqb (graphOfRows rows).link 255 0 [] ≡ o →
+      go : (o : Option (List ℕ)) → visit eqb (graph_of_rows rows).link 255 0 [] ≡ o →
           (holds (λ seen. eqb (length seen) (length rows)) o ≡ true) ↔ ((length rows ≤ 255) × AllReached rows)
       go none e = (
         λ q. true-false q refl,
         λ (short, _).
             absurd
             (few-nodes rows linked short
-            (visit-many eqb tells-eqb (graphOfRows rows).link (Reached (graphOfRows rows))
-            (λ v w f r l. reached-link (graphOfRows rows) f r l) (narrow rows linked) 0 (reached-root (graphOfRows rows)) e)),
+            (visit-many eqb tells-eqb (graph_of_rows rows).link (Reached (graph_of_rows rows))
+            (λ v w f r l. reached-link (graph_of_rows rows) f r l) (narrow rows linked) 0 (reached-root (graph_of_rows rows)) e)),
       )
       go (some now) e = (
         λ q.
             let full = eqb-true (length now) (length rows) q in (
-              omega (arith, seen-short eqb tells-eqb (graphOfRows rows) (narrow rows linked) now e),
+              omega (arith, seen-short eqb tells-eqb (graph_of_rows rows) (narrow rows linked) now e),
               λ v h. found v (full-list (length rows) now distinct (λ x m. reached-inside rows linked x (found x m)) full v h),
             ),
         λ (_, all).
@@ -91,10 +91,10 @@ module _ (rows : List (Row Label)) (linked : Linked rows) where
       )
         where
           distinct : Distinct now
-          distinct = seen-distinct eqb tells-eqb (graphOfRows rows) (narrow rows linked) now e
+          distinct = seen-distinct eqb tells-eqb (graph_of_rows rows) (narrow rows linked) now e
 
-          found : (v : ℕ) → Memᴰ v now → Reached (graphOfRows rows) v
-          found = seen-reached eqb tells-eqb (graphOfRows rows) (narrow rows linked) now e
+          found : (v : ℕ) → Memᴰ v now → Reached (graph_of_rows rows) v
+          found = seen-reached eqb tells-eqb (graph_of_rows rows) (narrow rows linked) now e
 
-          finds : (v : ℕ) → Reached (graphOfRows rows) v → Memᴰ v now
-          finds = reached-seen eqb tells-eqb (graphOfRows rows) (narrow rows linked) now e
+          finds : (v : ℕ) → Reached (graph_of_rows rows) v → Memᴰ v now
+          finds = reached-seen eqb tells-eqb (graph_of_rows rows) (narrow rows linked) now e

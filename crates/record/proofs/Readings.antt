@@ -11,15 +11,15 @@ use borrow.Author.Tests.{leb-true, le-leb}
 use lib.Dec.{leb}
 use lib.ListN.{length}
 use Rattle.graphs.specs.Rows.{Row}
-use Rattle.peeling.specs.Range.{labelInRange}
+use Rattle.peeling.specs.Range.{label_in_range}
 use Rattle.peeling.proofs.Range.{LabelInRange, label-in-range}
 use Rattle.record.specs.declared.GraphFault.TheVariants.{Malformed, OutOfRange, Cyclic, Unreached, Inappropriate}
 use Rattle.decode.specs.Decode.{decoded}
 use Rattle.graphs.specs.Order.{all_of}
-use Rattle.graphs.proofs.Order.{allOf-true, true-allOf}
+use Rattle.graphs.proofs.Order.{all_of-true, true-all_of}
 use Rattle.graphs.proofs.Search.{both_true, true-both}
 use Rattle.lattice.specs.Label.{Label}
-use Rattle.record.specs.Read.{Reading, refused, accepted, judged, reading, in_range, cyclic, reachesAll}
+use Rattle.record.specs.Read.{Reading, refused, accepted, judged, reading, in_range, cyclic, reaches_all}
 
 -- the tests behind each reading
 abbrev pub Stands : ℕ → List ℕ → Reading → Type 0
@@ -32,10 +32,10 @@ Stands n bytes (refused Unreached) =
     (decoded bytes ≡ some rows) ×
     (in_range n rows ≡ true) ×
     (cyclic rows ≡ false) ×
-    (reachesAll rows ≡ false)
+    (reaches_all rows ≡ false)
 Stands n bytes (refused Inappropriate) = ⊥
 Stands n bytes (accepted rows) =
-    (decoded bytes ≡ some rows) × (in_range n rows ≡ true) × (cyclic rows ≡ false) × (reachesAll rows ≡ true)
+    (decoded bytes ≡ some rows) × (in_range n rows ≡ true) × (cyclic rows ≡ false) × (reaches_all rows ≡ true)
 
 module _ (n : ℕ) (bytes : List ℕ) where
   reading-stands : Stands n bytes (reading n bytes)
@@ -43,19 +43,19 @@ module _ (n : ℕ) (bytes : List ℕ) where
   reading-stands = parsed (decoded bytes) refl
     where
       reached : (rows : List (Row Label)) → decoded bytes ≡ some rows → in_range n rows ≡ true → cyclic rows ≡ false →
-          (t : Bool) → reachesAll rows ≡ t → Stands n bytes (cond t (accepted rows) (refused Unreached))
+          (t : Bool) → reaches_all rows ≡ t → Stands n bytes (cond t (accepted rows) (refused Unreached))
       reached rows e i c true a = (e, i, c, a)
       reached rows e i c false a = (rows, e, i, c, a)
 
       acyclic : (rows : List (Row Label)) → decoded bytes ≡ some rows → in_range n rows ≡ true → (t : Bool) → cyclic rows ≡ t →
-          Stands n bytes (cond t (refused Cyclic) (cond (reachesAll rows) (accepted rows) (refused Unreached)))
+          Stands n bytes (cond t (refused Cyclic) (cond (reaches_all rows) (accepted rows) (refused Unreached)))
       acyclic rows e i true c = (rows, e, i, c)
-      acyclic rows e i false c = reached rows e i c (reachesAll rows) refl
+      acyclic rows e i false c = reached rows e i c (reaches_all rows) refl
 
       ranged : (rows : List (Row Label)) → decoded bytes ≡ some rows → (t : Bool) → in_range n rows ≡ t →
           Stands n bytes
           (cond t
-          (cond (cyclic rows) (refused Cyclic) (cond (reachesAll rows) (accepted rows) (refused Unreached)))
+          (cond (cyclic rows) (refused Cyclic) (cond (reaches_all rows) (accepted rows) (refused Unreached)))
           (refused OutOfRange))
       ranged rows e true i = acyclic rows e i (cyclic rows) refl
       ranged rows e false i = (rows, e, i)
@@ -86,17 +86,17 @@ pub in-range : (n : ℕ) (rows : List (Row Label)) → (in_range n rows ≡ true
 unfolding in_range
 in-range n rows = (
   λ e r m.
-      let (label, targets) = both_true (labelInRange n r.0) (all_of r.1 targeted) (allOf-true rows tested e r m) in
-      ((label-in-range n r.0).0 label, λ l i. leb-true (suc l.1) (length rows) (allOf-true r.1 targeted targets l i)),
+      let (label, targets) = both_true (label_in_range n r.0) (all_of r.1 targeted) (all_of-true rows tested e r m) in
+      ((label-in-range n r.0).0 label, λ l i. leb-true (suc l.1) (length rows) (all_of-true r.1 targeted targets l i)),
   λ all.
-      true-allOf rows tested λ r m.
+      true-all_of rows tested λ r m.
       let (label, targets) = all r m in
-      true-both (labelInRange n r.0) (all_of r.1 targeted) ((label-in-range n r.0).1 label)
-      (true-allOf r.1 targeted (λ l i. le-leb (suc l.1) (length rows) (targets l i))),
+      true-both (label_in_range n r.0) (all_of r.1 targeted) ((label-in-range n r.0).1 label)
+      (true-all_of r.1 targeted (λ l i. le-leb (suc l.1) (length rows) (targets l i))),
 )
   where
     targeted : ℕ × ℕ → Bool
     targeted l = leb (suc l.1) (length rows)
 
     tested : Row Label → Bool
-    tested r = labelInRange n r.0 && all_of r.1 targeted
+    tested r = label_in_range n r.0 && all_of r.1 targeted

@@ -27,11 +27,11 @@ use Rattle.graphs.proofs.Form.Rules.{
   form-features,
   form-targets,
 }
-use Rattle.lattice.specs.Labels.{tableLabels, OfAnySize}
+use Rattle.lattice.specs.Labels.{table_labels, OfAnySize}
 use Rattle.decode.specs.Decode.{decoded}
 use Rattle.encoder.specs.Encode.{encoded}
 use Rattle.peeling.proofs.Range.{LabelInRange}
-use Rattle.record.specs.Read.{graphOfRows, cyclic, reading, accepted}
+use Rattle.record.specs.Read.{graph_of_rows, cyclic, reading, accepted}
 use Rattle.record.proofs.Readings.{InRange, reading-says, in-range}
 use Rattle.record.proofs.RoundTrip.{decode-encode, form-types}
 use Rattle.record.proofs.Nodes.{Linked, reached-inside, narrow}
@@ -69,12 +69,12 @@ module _ (n : ℕ) (t : List ℕ) {A : Type 0} (same : A → A → Bool) (tells 
       }
 
   -- the form, written again, is the form
-  pub form-again : canonical eqb (graphOfRows form) ≡ written form
+  pub form-again : canonical eqb (graph_of_rows form) ≡ written form
   form-again = canonical-idempotent same tells g small no_label form e
 
-  pub form-meaning : SameMeaning (tableLabels n t) g (graphOfRows form)
+  pub form-meaning : SameMeaning (table_labels n t) g (graph_of_rows form)
   form-meaning =
-      (canonical-exact (tableLabels n t) same eqb tells tells-eqb g (graphOfRows form) small (narrow form form-linked) form e).1 form-again
+      (canonical-exact (table_labels n t) same eqb tells tells-eqb g (graph_of_rows form) small (narrow form form-linked) form e).1 form-again
 
   form-ranged : InRange n form
   form-ranged r m =
@@ -85,7 +85,7 @@ module _ (n : ℕ) (t : List ℕ) {A : Type 0} (same : A → A → Bool) (tells 
   -- the form has as many rows as its graph has nodes
   form-reached : AllReached form
   form-reached v h =
-      let (nodes, d, listed, q) = form-nodes eqb tells-eqb (graphOfRows form) (narrow form form-linked) form form-again in
+      let (nodes, d, listed, q) = form-nodes eqb tells-eqb (graph_of_rows form) (narrow form form-linked) form form-again in
       (listed v).1 (full-list (length form) nodes d (λ x m. reached-inside form form-linked x ((listed x).1 m)) (sym q) v h)
 
   -- a node that reaches itself is at the end of two paths that share, and they share in the graph that was written
@@ -93,7 +93,7 @@ module _ (n : ℕ) (t : List ℕ) {A : Type 0} (same : A → A → Bool) (tells 
   form-acyclic (v, h, f, p, loop) =
       let (path, at) = form-reached v h in
       let (w, d, c) = (form-meaning.corefers path (path ++ (f ∷ p))).1
-      (v, at, walk-append (graphOfRows form) path (f ∷ p) at ∙ loop) in
+      (v, at, walk-append (graph_of_rows form) path (f ∷ p) at ∙ loop) in
       size.any-size.acyclic w f p (path, d) (sym (walk-append g path (f ∷ p) d) ∙ c)
 
   module _ (types : (v : A) → Reached g v → (g.label v).type < 128) where
@@ -112,7 +112,7 @@ module _ (n : ℕ) (t : List ℕ) {A : Type 0} (same : A → A → Bool) (tells 
         }
 
     -- what is written is accepted when it is read, and means what was written
-    pub written-reads : (reading n (encoded form) ≡ accepted form) × SameMeaning (tableLabels n t) g (graphOfRows form)
+    pub written-reads : (reading n (encoded form) ≡ accepted form) × SameMeaning (table_labels n t) g (graph_of_rows form)
     written-reads = (rules-read n form form-rules, form-meaning)
 
 -- rows that keep the rules are determined by their bytes
@@ -122,9 +122,9 @@ encoded-injective rows other rules same q =
 
 -- equal meaning is equal bytes once written
 pub meaning-by-bytes : (n : ℕ) (t : List ℕ) (rows other : List (Row Label)) → Rules n rows → Rules n other →
-    (form form' : List (Row Label)) → canonical eqb (graphOfRows rows) ≡ written form →
-    canonical eqb (graphOfRows other) ≡ written form' →
-    SameMeaning (tableLabels n t) (graphOfRows rows) (graphOfRows other) ↔ (encoded form ≡ encoded form')
+    (form form' : List (Row Label)) → canonical eqb (graph_of_rows rows) ≡ written form →
+    canonical eqb (graph_of_rows other) ≡ written form' →
+    SameMeaning (table_labels n t) (graph_of_rows rows) (graph_of_rows other) ↔ (encoded form ≡ encoded form')
 meaning-by-bytes n t rows other rules same form form' e e' = (
   λ m. ap encoded (written-injective (sym (exact.0 m) ∙ e')),
   λ q.
@@ -132,11 +132,11 @@ meaning-by-bytes n t rows other rules same form form' e e' = (
       (e' ∙ ap written (sym (encoded-injective form form' (rewritten rows rules form e) (rewritten other same form' e') q))),
 )
   where
-    rewritten : (rows : List (Row Label)) → Rules n rows → (form : List (Row Label)) → canonical eqb (graphOfRows rows) ≡ written form → Rules n form
+    rewritten : (rows : List (Row Label)) → Rules n rows → (form : List (Row Label)) → canonical eqb (graph_of_rows rows) ≡ written form → Rules n form
     rewritten rows rules form e =
-        form-rules n t eqb tells-eqb (graphOfRows rows) (rules-of-any-size n rows rules t) form e (rules-types n rows rules)
+        form-rules n t eqb tells-eqb (graph_of_rows rows) (rules-of-any-size n rows rules t) form e (rules-types n rows rules)
 
-    exact : SameMeaning (tableLabels n t) (graphOfRows rows) (graphOfRows other) ↔ (canonical eqb (graphOfRows other) ≡ written form)
+    exact : SameMeaning (table_labels n t) (graph_of_rows rows) (graph_of_rows other) ↔ (canonical eqb (graph_of_rows other) ≡ written form)
     exact =
-        canonical-exact (tableLabels n t) eqb eqb tells-eqb tells-eqb (graphOfRows rows) (graphOfRows other)
+        canonical-exact (table_labels n t) eqb eqb tells-eqb tells-eqb (graph_of_rows rows) (graph_of_rows other)
         (narrow rows (rules-linked rules)) (narrow other (rules-linked same)) form e

@@ -17,62 +17,62 @@ use lib.ListN.{length, get_or, get_or-append}
 use lib.Pow.{shr-shr}
 use Rattle.graphs.specs.Graph.{Graph, Reached, TellsApart}
 use Rattle.graphs.specs.Rows.{Row, from, target}
-use Rattle.graphs.specs.Number.{countSome, canonical, written}
-use Rattle.graphs.specs.Large.{Ascending, linksIn}
-use Rattle.graphs.proofs.Lists.{getD-from, count_small}
+use Rattle.graphs.specs.Number.{count_some, canonical, written}
+use Rattle.graphs.specs.Large.{Ascending, links_in}
+use Rattle.graphs.proofs.Lists.{get_or-from, count_small}
 use Rattle.graphs.proofs.Form.Rules.{form-labels}
-use Rattle.lattice.specs.Label.{Label, isFull, graphOfRows}
-use Rattle.decode.specs.Decode.{Taken, changed, takeTarget, takeLinks, take_row, takeRows, bit_of, whole, decoded}
+use Rattle.lattice.specs.Label.{Label, is_full, graph_of_rows}
+use Rattle.decode.specs.Decode.{Taken, changed, take_target, take_links, take_row, take_rows, bit_of, whole, decoded}
 use Rattle.decode.proofs.Decoded.{Proper}
-use Rattle.encoder.specs.Encode.{bitsFrom, encodedLabel, encodedRow, encodedRows, encoded}
+use Rattle.encoder.specs.Encode.{bits_from, encoded_label, encoded_row, encoded_rows, encoded}
 use Rattle.encoder.proofs.FeatureMap.{Within, target-absent, target_first, target-later}
-use Rattle.record.specs.Spelled.{spelledLabel, spelledRow, spelledRows, spelled}
+use Rattle.record.specs.Spelled.{spelled_label, spelled_row, spelled_rows, spelled}
 use Rattle.record.proofs.Labels.{SevenBits, States, encoded-states, spelled-states, row-behind}
 
 -- the bit at i of the number that says which features stand
-bits_at : (links : List (ℕ × ℕ)) (f k i : ℕ) → i < k → (bitsFrom links f k / 2 ^ i) % 2 ≡ countSome (target links (f + i))
-unfolding bitsFrom
+bits_at : (links : List (ℕ × ℕ)) (f k i : ℕ) → i < k → (bits_from links f k / 2 ^ i) % 2 ≡ count_some (target links (f + i))
+unfolding bits_from
 bits_at links f zero i h = absurd (omega arith)
 bits_at links f (suc k) zero h =
-    let small : countSome (target links f) ≤ 1 = count_small (target links f) in
-    let e : (countSome (target links f) + 2 * bitsFrom links (suc f) k) / 1 % 2 ≡ countSome (target links f) = omega arith in
-    e ∙ ap (λ (n : ℕ). countSome (target links n)) (sym (add-zero f))
+    let small : count_some (target links f) ≤ 1 = count_small (target links f) in
+    let e : (count_some (target links f) + 2 * bits_from links (suc f) k) / 1 % 2 ≡ count_some (target links f) = omega arith in
+    e ∙ ap (λ (n : ℕ). count_some (target links n)) (sym (add-zero f))
 bits_at links f (suc k) (suc i) h =
-    let small : countSome (target links f) ≤ 1 = count_small (target links f) in
-    let all : ℕ = countSome (target links f) + 2 * bitsFrom links (suc f) k in
-    let half : all / 2 ≡ bitsFrom links (suc f) k = omega arith in
+    let small : count_some (target links f) ≤ 1 = count_small (target links f) in
+    let all : ℕ = count_some (target links f) + 2 * bits_from links (suc f) k in
+    let half : all / 2 ≡ bits_from links (suc f) k = omega arith in
     let p : suc i ≡ 1 + i = omega arith in
     let q : suc f + i ≡ f + suc i = omega arith in
     ap (λ (n : ℕ). all / 2 ^ n % 2) p
     ∙ ap (λ (n : ℕ). n % 2) (sym (shr-shr all 1 i) ∙ ap (λ (n : ℕ). n / 2 ^ i) half)
     ∙ bits_at links (suc f) k i (omega arith)
-    ∙ ap (λ (n : ℕ). countSome (target links n)) q
+    ∙ ap (λ (n : ℕ). count_some (target links n)) q
 
 -- whether a feature stands
 abbrev stood : List (ℕ × ℕ) → ℕ → Bool
-stood links f = eqb (countSome (target links f)) 1
+stood links f = eqb (count_some (target links f)) 1
 
 -- the eight bytes of a row's map
-abbrev pub mapBytes : List (ℕ × ℕ) → List ℕ
-mapBytes links = map (λ k. bitsFrom links (8 * k) 8) (from 0 8)
+abbrev pub map_bytes : List (ℕ × ℕ) → List ℕ
+map_bytes links = map (λ k. bits_from links (8 * k) 8) (from 0 8)
 
-length-mapBytes : (links : List (ℕ × ℕ)) → length (mapBytes links) ≡ 8
+length-map_bytes : (links : List (ℕ × ℕ)) → length (map_bytes links) ≡ 8
 unfolding from
-length-mapBytes links = refl
+length-map_bytes links = refl
 
-bit-stood : (links : List (ℕ × ℕ)) (rest : List ℕ) (f : ℕ) → f < 64 → bit_of (mapBytes links ++ rest) f ≡ stood links f
+bit-stood : (links : List (ℕ × ℕ)) (rest : List ℕ) (f : ℕ) → f < 64 → bit_of (map_bytes links ++ rest) f ≡ stood links f
 unfolding bit_of
 bit-stood links rest f h =
     let low : f / 8 < 8 = omega arith in
     let place : 8 * (f / 8) + f % 8 ≡ f = omega arith in
-    let byte : get_or (mapBytes links ++ rest) (f / 8) 0 ≡ bitsFrom links (8 * (f / 8)) 8 =
-    get_or-append (mapBytes links) rest 0 (f / 8) (omega (arith, length-mapBytes links))
-    ∙ getD-from (λ k. bitsFrom links (8 * k) 8) 0 8 0 (f / 8) low
-    ∙ ap (λ (n : ℕ). bitsFrom links (8 * n) 8) (zero-add (f / 8)) in
+    let byte : get_or (map_bytes links ++ rest) (f / 8) 0 ≡ bits_from links (8 * (f / 8)) 8 =
+    get_or-append (map_bytes links) rest 0 (f / 8) (omega (arith, length-map_bytes links))
+    ∙ get_or-from (λ k. bits_from links (8 * k) 8) 0 8 0 (f / 8) low
+    ∙ ap (λ (n : ℕ). bits_from links (8 * n) 8) (zero-add (f / 8)) in
     ap (λ (n : ℕ). eqb n 1)
     (ap (λ (n : ℕ). n / 2 ^ (f % 8) % 2) byte
     ∙ bits_at links (8 * (f / 8)) 8 (f % 8) (omega arith)
-    ∙ ap (λ (n : ℕ). countSome (target links n)) place)
+    ∙ ap (λ (n : ℕ). count_some (target links n)) place)
 
 -- The links are taken again.
 
@@ -84,14 +84,14 @@ module _ (stands : ℕ → Bool) (room : ℕ) (rest : List ℕ) where
   Agree f k links = (g : ℕ) → f ≤ g → g < f + k → stands g ≡ stood links g
 
   links-taken : (links : List (ℕ × ℕ)) (f k total : ℕ) → Ascending links → Within f k links → Agree f k links →
-      total ≡ length links + room → takeLinks stands (from f k) total (map (λ l. l.1) links ++ rest) ≡ took links room rest
-  unfolding takeLinks from target
+      total ≡ length links + room → take_links stands (from f k) total (map (λ l. l.1) links ++ rest) ≡ took links room rest
+  unfolding take_links from target
   links-taken [] f zero total up inside agree e =
       let q : total ≡ room = omega arith in
       ap (λ (n : ℕ). took {X = List (ℕ × ℕ)} [] n rest) q
   links-taken (l ∷ ls) f zero total up inside agree e = absurd (omega (arith, inside l (Memᴰ.head refl)))
   links-taken [] f (suc k) total up inside agree e =
-      ap (λ (t : Bool). cond t (takeTarget f (takeLinks stands (from (suc f) k)) total rest) (takeLinks stands (from (suc f) k) total rest))
+      ap (λ (t : Bool). cond t (take_target f (take_links stands (from (suc f) k)) total rest) (take_links stands (from (suc f) k) total rest))
       (agree f (omega arith) (omega arith))
       ∙ links-taken [] (suc f) k total tt (λ l m. absurd (Memᴰ.not-nil m)) (λ g low high. agree g (omega arith) (omega arith)) e
   links-taken (l ∷ ls) f (suc k) total up inside agree e =
@@ -99,26 +99,26 @@ module _ (stands : ℕ → Bool) (room : ℕ) (rest : List ℕ) where
       (λ w a. links-taken (l ∷ ls) (suc f) k total up w a e)
     where
       After : List (ℕ × ℕ) → ℕ → Type 0
-      After ms n = takeLinks stands (from (suc f) k) n (map (λ l. l.1) ms ++ rest) ≡ took ms room rest
+      After ms n = take_links stands (from (suc f) k) n (map (λ l. l.1) ms ++ rest) ≡ took ms room rest
 
       go : Dec (l.0 ≡ f) →
           (Within (suc f) k ls → Agree (suc f) k ls → length ls + room ≡ length ls + room → After ls (length ls + room)) →
           (Within (suc f) k (l ∷ ls) → Agree (suc f) k (l ∷ ls) → After (l ∷ ls) total) →
-          cond (stands f) (takeTarget f (takeLinks stands (from (suc f) k)) total (l.1 ∷ (map (λ l. l.1) ls ++ rest)))
-          (takeLinks stands (from (suc f) k) total (l.1 ∷ (map (λ l. l.1) ls ++ rest)))
+          cond (stands f) (take_target f (take_links stands (from (suc f) k)) total (l.1 ∷ (map (λ l. l.1) ls ++ rest)))
+          (take_links stands (from (suc f) k) total (l.1 ∷ (map (λ l. l.1) ls ++ rest)))
           ≡ took (l ∷ ls) room rest
       go (yes q) later whole =
           let n : total ≡ suc (length ls + room) = omega arith in
           ap₂
           (λ (t : Bool) (m : ℕ).
-          cond t (takeTarget f (takeLinks stands (from (suc f) k)) m (l.1 ∷ (map (λ l. l.1) ls ++ rest)))
-          (takeLinks stands (from (suc f) k) m (l.1 ∷ (map (λ l. l.1) ls ++ rest))))
-          (agree f (omega arith) (omega arith) ∙ ap (λ (o : Option ℕ). eqb (countSome o) 1) (target_first f l ls q))
+          cond t (take_target f (take_links stands (from (suc f) k)) m (l.1 ∷ (map (λ l. l.1) ls ++ rest)))
+          (take_links stands (from (suc f) k) m (l.1 ∷ (map (λ l. l.1) ls ++ rest))))
+          (agree f (omega arith) (omega arith) ∙ ap (λ (o : Option ℕ). eqb (count_some o) 1) (target_first f l ls q))
           n
           ∙ ap (Option.map (changed λ ms. (f, l.1) ∷ ms))
           (later (λ m i. omega (arith, up.0 m i, inside m (Memᴰ.tail i)))
           (λ g low high.
-          agree g (omega arith) (omega arith) ∙ ap (λ (o : Option ℕ). eqb (countSome o) 1) (target-later g l ls (λ (d : l.0 ≡ g). omega arith)))
+          agree g (omega arith) (omega arith) ∙ ap (λ (o : Option ℕ). eqb (count_some o) 1) (target-later g l ls (λ (d : l.0 ≡ g). omega arith)))
           refl)
           ∙ ap (λ (h : ℕ). took {X = List (ℕ × ℕ)} ((h, l.1) ∷ ls) room rest) (sym q)
       go (no d) later whole =
@@ -127,108 +127,108 @@ module _ (stands : ℕ → Bool) (room : ℕ) (rest : List ℕ) where
           λ m i. ⊎_elim (λ (e : m ≡ l). omega (arith, ap (λ (x : ℕ × ℕ). x.0) e)) (λ n. omega (arith, up.0 m n)) (Memᴰ.cases_cons i) in
           ap
           (λ (t : Bool).
-          cond t (takeTarget f (takeLinks stands (from (suc f) k)) total (l.1 ∷ (map (λ l. l.1) ls ++ rest)))
-          (takeLinks stands (from (suc f) k) total (l.1 ∷ (map (λ l. l.1) ls ++ rest))))
+          cond t (take_target f (take_links stands (from (suc f) k)) total (l.1 ∷ (map (λ l. l.1) ls ++ rest)))
+          (take_links stands (from (suc f) k) total (l.1 ∷ (map (λ l. l.1) ls ++ rest))))
           (agree f (omega arith) (omega arith)
-          ∙ ap (λ (o : Option ℕ). eqb (countSome o) 1) (target-absent f (l ∷ ls) (λ m i (e : m.0 ≡ f). omega (arith, above m i))))
+          ∙ ap (λ (o : Option ℕ). eqb (count_some o) 1) (target-absent f (l ∷ ls) (λ m i (e : m.0 ≡ f). omega (arith, above m i))))
           ∙ whole (λ m i. omega (arith, above m i, inside m i)) (λ g low high. agree g (omega arith) (omega arith))
 
 -- a row behind bytes that state its label
 row-taken-behind : (r : Row Label) {bytes : List ℕ} → States bytes r.0 → (room : ℕ) (rest : List ℕ) → Proper r →
-    take_row (length r.1 + room) ((bytes ++ mapBytes r.1 ++ map (λ l. l.1) r.1) ++ rest) ≡ took r room rest
+    take_row (length r.1 + room) ((bytes ++ map_bytes r.1 ++ map (λ l. l.1) r.1) ++ rest) ≡ took r room rest
 unfolding from
 row-taken-behind r {bytes} states room rest (up, low) =
     let numbers : List ℕ = map (λ l. l.1) r.1 in
-    let behind : List ℕ = mapBytes r.1 ++ (numbers ++ rest) in
-    ap (take_row (length r.1 + room)) (append_assoc (bytes ++ mapBytes r.1) numbers rest ∙ append_assoc bytes (mapBytes r.1) (numbers ++ rest))
+    let behind : List ℕ = map_bytes r.1 ++ (numbers ++ rest) in
+    ap (take_row (length r.1 + room)) (append_assoc (bytes ++ map_bytes r.1) numbers rest ∙ append_assoc bytes (map_bytes r.1) (numbers ++ rest))
     ∙ row-behind states (length r.1 + room) behind
     ∙ ap
     (λ (t : Bool).
-    cond t (Option.map (changed λ ls. (r.0, ls)) (takeLinks (bit_of behind) (from 0 64) (length r.1 + room) (numbers ++ rest))) none)
+    cond t (Option.map (changed λ ls. (r.0, ls)) (take_links (bit_of behind) (from 0 64) (length r.1 + room) (numbers ++ rest))) none)
     (le-leb 8 (length behind) (omega arith))
     ∙ ap (Option.map (changed λ ls. (r.0, ls)))
     (links-taken (bit_of behind) room rest r.1 0 64 (length r.1 + room) up (λ l m. omega (arith, low l m))
     (λ g _ high. bit-stood r.1 (numbers ++ rest) g high) refl)
 
 pub row-taken : (r : Row Label) (room : ℕ) (rest : List ℕ) → r.0.type < 128 → Proper r →
-    take_row (length r.1 + room) (encodedRow r ++ rest) ≡ took r room rest
-unfolding encodedRow
+    take_row (length r.1 + room) (encoded_row r ++ rest) ≡ took r room rest
+unfolding encoded_row
 row-taken r room rest typed = row-taken-behind r (encoded-states r.0 typed) room rest
 
-spelled-row-taken : (writes : Bool) (r : Row Label) (room : ℕ) (rest : List ℕ) → r.0.type < 128 → (isFull r.0 ≡ false → writes ≡ true) →
-    Proper r → take_row (length r.1 + room) (spelledRow writes r ++ rest) ≡ took r room rest
-unfolding spelledRow
+spelled-row-taken : (writes : Bool) (r : Row Label) (room : ℕ) (rest : List ℕ) → r.0.type < 128 → (is_full r.0 ≡ false → writes ≡ true) →
+    Proper r → take_row (length r.1 + room) (spelled_row writes r ++ rest) ≡ took r room rest
+unfolding spelled_row
 spelled-row-taken writes r room rest typed range = row-taken-behind r (spelled-states writes r.0 typed range) room rest
 
 -- the ranges that are not full are written
 abbrev pub WritesRanges : (ℕ → Bool) → List (Row Label) → Type 0
-WritesRanges writes rows = (v : ℕ) → v < length rows → isFull ((graphOfRows rows).label v) ≡ false → writes v ≡ true
+WritesRanges writes rows = (v : ℕ) → v < length rows → is_full ((graph_of_rows rows).label v) ≡ false → writes v ≡ true
 
 rows_taken : (writes : ℕ → Bool) (rows : List (Row Label)) (room total : ℕ) (rest : List ℕ) → SevenBits rows → WritesRanges writes rows →
-    ((r : Row Label) → Memᴰ r rows → Proper r) → total ≡ linksIn rows + room →
-    takeRows (length rows) total (spelledRows writes rows ++ rest) ≡ took rows room rest
-unfolding bind takeRows spelledRows linksIn
+    ((r : Row Label) → Memᴰ r rows → Proper r) → total ≡ links_in rows + room →
+    take_rows (length rows) total (spelled_rows writes rows ++ rest) ≡ took rows room rest
+unfolding bind take_rows spelled_rows links_in
 rows_taken writes [] room total rest typed ranges proper e =
     let q : total ≡ room = omega arith in
     ap (λ (n : ℕ). took {X = List (Row Label)} [] n rest) q
 rows_taken writes (r ∷ rs) room total rest typed ranges proper e =
-    let q : total ≡ length r.1 + (linksIn rs + room) = omega arith in
-    let later : List ℕ = spelledRows (λ v. writes (suc v)) rs in
+    let q : total ≡ length r.1 + (links_in rs + room) = omega arith in
+    let later : List ℕ = spelled_rows (λ v. writes (suc v)) rs in
     ap₂
     (λ (n : ℕ) (bytes : List ℕ).
-    bind (take_row n bytes) λ t. Option.map (changed λ rs. t.value ∷ rs) (takeRows (length rs) t.room t.rest))
+    bind (take_row n bytes) λ t. Option.map (changed λ rs. t.value ∷ rs) (take_rows (length rs) t.room t.rest))
     q
-    (append_assoc (spelledRow (writes 0) r) later rest)
+    (append_assoc (spelled_row (writes 0) r) later rest)
     ∙ ap
     (λ (o : Option (Taken (Row Label))).
-    bind o λ t. Option.map (changed λ rs. t.value ∷ rs) (takeRows (length rs) t.room t.rest))
-    (spelled-row-taken (writes 0) r (linksIn rs + room) (later ++ rest) (typed r (Memᴰ.head refl)) (ranges 0 (omega arith))
+    bind o λ t. Option.map (changed λ rs. t.value ∷ rs) (take_rows (length rs) t.room t.rest))
+    (spelled-row-taken (writes 0) r (links_in rs + room) (later ++ rest) (typed r (Memᴰ.head refl)) (ranges 0 (omega arith))
     (proper r (Memᴰ.head refl)))
     ∙ ap (Option.map (changed λ rs. r ∷ rs))
-    (rows_taken (λ v. writes (suc v)) rs room (linksIn rs + room) rest (λ x m. typed x (Memᴰ.tail m)) (λ v l. ranges (suc v) (omega arith))
+    (rows_taken (λ v. writes (suc v)) rs room (links_in rs + room) rest (λ x m. typed x (Memᴰ.tail m)) (λ v l. ranges (suc v) (omega arith))
     (λ x m. proper x (Memᴰ.tail m)) refl)
 
 -- The bytes that spell rows are decoded to the rows.
-pub decode-spelled : (writes : ℕ → Bool) (rows : List (Row Label)) → 0 < length rows → linksIn rows ≤ 2048 → SevenBits rows →
+pub decode-spelled : (writes : ℕ → Bool) (rows : List (Row Label)) → 0 < length rows → links_in rows ≤ 2048 → SevenBits rows →
     WritesRanges writes rows → ((r : Row Label) → Memᴰ r rows → Proper r) → decoded (spelled writes rows) ≡ some rows
 unfolding decoded spelled
 decode-spelled writes rows some-row few typed ranges proper =
-    ap (λ (t : Bool). cond t none (whole (takeRows (length rows) 2048 (spelledRows writes rows))))
+    ap (λ (t : Bool). cond t none (whole (take_rows (length rows) 2048 (spelled_rows writes rows))))
     (ne_eqb (length rows) 0 (λ (e : length rows ≡ 0). omega arith))
-    ∙ ap (λ (bytes : List ℕ). whole (takeRows (length rows) 2048 bytes)) (sym (append-nil (spelledRows writes rows)))
-    ∙ ap whole (rows_taken writes rows (2048 - linksIn rows) 2048 [] typed ranges proper (omega arith))
+    ∙ ap (λ (bytes : List ℕ). whole (take_rows (length rows) 2048 bytes)) (sym (append-nil (spelled_rows writes rows)))
+    ∙ ap whole (rows_taken writes rows (2048 - links_in rows) 2048 [] typed ranges proper (omega arith))
 
 -- The encoder writes the ranges that are not full, and no others.
 
-abbrev pub notFull : List (Row Label) → ℕ → Bool
-notFull rows v = not (isFull ((graphOfRows rows).label v))
+abbrev pub not_full : List (Row Label) → ℕ → Bool
+not_full rows v = not (is_full ((graph_of_rows rows).label v))
 
-pub not-full-written : (rows : List (Row Label)) → WritesRanges (notFull rows) rows
+pub not-full-written : (rows : List (Row Label)) → WritesRanges (not_full rows) rows
 not-full-written rows v l e = ap not e
 
-row-spelled : (r : Row Label) → encodedRow r ≡ spelledRow (not (isFull r.0)) r
-unfolding encodedRow spelledRow encodedLabel spelledLabel
-row-spelled r = go (isFull r.0)
+row-spelled : (r : Row Label) → encoded_row r ≡ spelled_row (not (is_full r.0)) r
+unfolding encoded_row spelled_row encoded_label spelled_label
+row-spelled r = go (is_full r.0)
   where
     go : (full : Bool) →
-        cond full (r.0.type ∷ []) ((128 + r.0.type) ∷ r.0.lowest ∷ r.0.highest ∷ []) ++ mapBytes r.1 ++ map (λ l. l.1) r.1
-        ≡ cond (not full) ((128 + r.0.type) ∷ r.0.lowest ∷ r.0.highest ∷ []) (r.0.type ∷ []) ++ mapBytes r.1 ++ map (λ l. l.1) r.1
+        cond full (r.0.type ∷ []) ((128 + r.0.type) ∷ r.0.lowest ∷ r.0.highest ∷ []) ++ map_bytes r.1 ++ map (λ l. l.1) r.1
+        ≡ cond (not full) ((128 + r.0.type) ∷ r.0.lowest ∷ r.0.highest ∷ []) (r.0.type ∷ []) ++ map_bytes r.1 ++ map (λ l. l.1) r.1
     go true = refl
     go false = refl
 
-rows-spelled : (rows : List (Row Label)) → encodedRows rows ≡ spelledRows (notFull rows) rows
-unfolding encodedRows spelledRows
+rows-spelled : (rows : List (Row Label)) → encoded_rows rows ≡ spelled_rows (not_full rows) rows
+unfolding encoded_rows spelled_rows
 rows-spelled [] = refl
 rows-spelled (r ∷ rs) = ap₂ (λ (a b : List ℕ). a ++ b) (row-spelled r) (rows-spelled rs)
 
-pub encoded-spelled : (rows : List (Row Label)) → encoded rows ≡ spelled (notFull rows) rows
+pub encoded-spelled : (rows : List (Row Label)) → encoded rows ≡ spelled (not_full rows) rows
 unfolding encoded spelled
 encoded-spelled rows = ap (λ (bytes : List ℕ). length rows ∷ bytes) (rows-spelled rows)
 
-pub decode-encode : (rows : List (Row Label)) → 0 < length rows → linksIn rows ≤ 2048 → SevenBits rows →
+pub decode-encode : (rows : List (Row Label)) → 0 < length rows → links_in rows ≤ 2048 → SevenBits rows →
     ((r : Row Label) → Memᴰ r rows → Proper r) → decoded (encoded rows) ≡ some rows
 decode-encode rows some-row few typed proper =
-    ap decoded (encoded-spelled rows) ∙ decode-spelled (notFull rows) rows some-row few typed (not-full-written rows) proper
+    ap decoded (encoded-spelled rows) ∙ decode-spelled (not_full rows) rows some-row few typed (not-full-written rows) proper
 
 -- What is written of a graph whose types have seven bits is decoded to its written form.
 module _ {A : Type 0} (same : A → A → Bool) (tells : TellsApart same) (g : Graph Label A)

@@ -16,16 +16,16 @@ use lib.ListN.{length, length-drop, get_or, drop}
 use lib.Pow.{shr-shr}
 use lib.Seq.{drop-drop}
 use Rattle.graphs.specs.Rows.{Row, from, features, target}
-use Rattle.graphs.specs.Number.{countSome}
+use Rattle.graphs.specs.Number.{count_some}
 use Rattle.graphs.proofs.Search.{true-false, cond-some}
 use Rattle.graphs.proofs.Walk.{some-injective, none-some}
-use Rattle.lattice.specs.Label.{Label, plain, isFull}
-use Rattle.decode.specs.Decode.{AreBytes, Taken, changed, takeTarget, takeLinks, isRanged, labelLength, label_of, take_row, takeRows, bit_of, whole, decoded}
+use Rattle.lattice.specs.Label.{Label, plain, is_full}
+use Rattle.decode.specs.Decode.{AreBytes, Taken, changed, take_target, take_links, is_ranged, label_length, label_of, take_row, take_rows, bit_of, whole, decoded}
 use Rattle.decode.proofs.Decoded.{byte-below, drop-member, Decoded, decoded-says}
-use Rattle.encoder.specs.Encode.{bitsFrom}
-use Rattle.record.specs.Spelled.{spelledLabel, spelledRow, spelledRows, spelled, Statable, Spells}
+use Rattle.encoder.specs.Encode.{bits_from}
+use Rattle.record.specs.Spelled.{spelled_label, spelled_row, spelled_rows, spelled, Statable, Spells}
 use Rattle.record.proofs.Labels.{decoded-types}
-use Rattle.record.proofs.RoundTrip.{WritesRanges, mapBytes, decode-spelled}
+use Rattle.record.proofs.RoundTrip.{WritesRanges, map_bytes, decode-spelled}
 
 -- Spelled bytes are parsed to their rows.
 pub spells-decoded : {bytes : List ℕ} {rows : List (Row Label)} {writes : ℕ → Bool} → Spells bytes rows writes → decoded bytes ≡ some rows
@@ -37,18 +37,18 @@ spells-decoded {rows = rows} {writes = writes} s =
 -- The label.
 
 -- bytes that begin with a label's
-label-spelled : (rest : List ℕ) → AreBytes rest → labelLength rest ≤ length rest →
-    rest ≡ spelledLabel (isRanged (get_or rest 0 0)) (label_of rest) ++ drop (labelLength rest) rest
-unfolding labelLength label_of spelledLabel
+label-spelled : (rest : List ℕ) → AreBytes rest → label_length rest ≤ length rest →
+    rest ≡ spelled_label (is_ranged (get_or rest 0 0)) (label_of rest) ++ drop (label_length rest) rest
+unfolding label_length label_of spelled_label
 label-spelled [] small long = absurd (omega arith)
-label-spelled (x ∷ xs) small long = go (isRanged x) refl xs long
+label-spelled (x ∷ xs) small long = go (is_ranged x) refl xs long
   where
-    labelWith : Bool → List ℕ → Label
-    labelWith b xs = cond b (record { type = x % 128; lowest = get_or xs 0 0; highest = get_or xs 1 0 }) (plain (x % 128))
+    label_with : Bool → List ℕ → Label
+    label_with b xs = cond b (record { type = x % 128; lowest = get_or xs 0 0; highest = get_or xs 1 0 }) (plain (x % 128))
 
-    go : (b : Bool) → isRanged x ≡ b → (xs : List ℕ) → cond b 3 1 ≤ suc (length xs) →
+    go : (b : Bool) → is_ranged x ≡ b → (xs : List ℕ) → cond b 3 1 ≤ suc (length xs) →
         x ∷ xs
-        ≡ cond b ((128 + (labelWith b xs).type) ∷ (labelWith b xs).lowest ∷ (labelWith b xs).highest ∷ []) ((labelWith b xs).type ∷ [])
+        ≡ cond b ((128 + (label_with b xs).type) ∷ (label_with b xs).lowest ∷ (label_with b xs).highest ∷ []) ((label_with b xs).type ∷ [])
         ++ drop (cond b 3 1) (x ∷ xs)
     go true h [] long = absurd (omega arith)
     go true h (y ∷ []) long = absurd (omega arith)
@@ -62,12 +62,12 @@ label-spelled (x ∷ xs) small long = go (isRanged x) refl xs long
         let is : x ≡ x % 128 = omega arith in
         ap (λ (a : ℕ). a ∷ xs) is
 
-range-spelled : (rest : List ℕ) → isFull (label_of rest) ≡ false → isRanged (get_or rest 0 0) ≡ true
-unfolding isFull label_of
-range-spelled rest e = go (isRanged (get_or rest 0 0)) e
+range-spelled : (rest : List ℕ) → is_full (label_of rest) ≡ false → is_ranged (get_or rest 0 0) ≡ true
+unfolding is_full label_of
+range-spelled rest e = go (is_ranged (get_or rest 0 0)) e
   where
     go : (b : Bool) →
-        isFull (cond b (record { type = get_or rest 0 0 % 128; lowest = get_or rest 1 0; highest = get_or rest 2 0 }) (plain (get_or rest 0 0 % 128))) ≡ false →
+        is_full (cond b (record { type = get_or rest 0 0 % 128; lowest = get_or rest 1 0; highest = get_or rest 2 0 }) (plain (get_or rest 0 0 % 128))) ≡ false →
         b ≡ true
     go true e = refl
     go false e = true-false refl e
@@ -77,35 +77,35 @@ range-spelled rest e = go (isRanged (get_or rest 0 0)) e
 record LinksSpelled (stands : ℕ → Bool) (k n : ℕ) (rest : List ℕ) (t : Taken (List (ℕ × ℕ))) : Type 0 where
   bytes-are : rest ≡ map (λ l. l.1) t.value ++ t.rest
   absent : (f : ℕ) → f < k → target t.value f ≡ none
-  stood : (f : ℕ) → k ≤ f → f < k + n → countSome (target t.value f) ≡ cond (stands f) 1 0
+  stood : (f : ℕ) → k ≤ f → f < k + n → count_some (target t.value f) ≡ cond (stands f) 1 0
 
 links-spelled : (stands : ℕ → Bool) (k n room : ℕ) (rest : List ℕ) (t : Taken (List (ℕ × ℕ))) →
-    takeLinks stands (from k n) room rest ≡ some t → LinksSpelled stands k n rest t
-unfolding from takeLinks target
+    take_links stands (from k n) room rest ≡ some t → LinksSpelled stands k n rest t
+unfolding from take_links target
 links-spelled stands k zero room rest t e =
     subst (LinksSpelled stands k 0 rest) (some-injective e)
     (record { bytes-are = refl; absent = λ f l. refl; stood = λ f low high. absurd (omega arith) })
 links-spelled stands k (suc n) room rest t e = go (stands k) refl e (links-spelled stands (suc k) n)
   where
     Later : Type 0
-    Later = (room : ℕ) (rest : List ℕ) (t : Taken (List (ℕ × ℕ))) → takeLinks stands (from (suc k) n) room rest ≡ some t →
+    Later = (room : ℕ) (rest : List ℕ) (t : Taken (List (ℕ × ℕ))) → take_links stands (from (suc k) n) room rest ≡ some t →
         LinksSpelled stands (suc k) n rest t
 
     stood-first : (b : ℕ) (rest : List ℕ) (s : Taken (List (ℕ × ℕ))) → stands k ≡ true → LinksSpelled stands (suc k) n rest s →
-        (f : ℕ) → k ≤ f → f < k + suc n → Dec (k ≡ f) → countSome (target ((k, b) ∷ s.value) f) ≡ cond (stands f) 1 0
+        (f : ℕ) → k ≤ f → f < k + suc n → Dec (k ≡ f) → count_some (target ((k, b) ∷ s.value) f) ≡ cond (stands f) 1 0
     stood-first b rest s h later f low high (yes q) =
-        ap (λ (t : Bool). countSome (cond t (some b) (target s.value f))) (eq-eqb k f q)
+        ap (λ (t : Bool). count_some (cond t (some b) (target s.value f))) (eq-eqb k f q)
         ∙ ap (λ (t : Bool). cond {A = ℕ} t 1 0) (sym (ap stands (sym q) ∙ h))
     stood-first b rest s h later f low high (no d) =
-        ap (λ (t : Bool). countSome (cond t (some b) (target s.value f))) (ne_eqb k f d)
+        ap (λ (t : Bool). count_some (cond t (some b) (target s.value f))) (ne_eqb k f d)
         ∙ later.stood f (omega arith) (omega arith)
 
-    taken : (room : ℕ) (rest : List ℕ) → stands k ≡ true → takeTarget k (takeLinks stands (from (suc k) n)) room rest ≡ some t → Later →
+    taken : (room : ℕ) (rest : List ℕ) → stands k ≡ true → take_target k (take_links stands (from (suc k) n)) room rest ≡ some t → Later →
         LinksSpelled stands k (suc n) rest t
     taken zero rest h q later = none-some q
     taken (suc room) [] h q later = none-some q
     taken (suc room) (b ∷ rest) h q later =
-        let (s, i, same) = (map-eq-some_iff (changed λ ls. (k, b) ∷ ls) (takeLinks stands (from (suc k) n) room rest)).0 q in
+        let (s, i, same) = (map-eq-some_iff (changed λ ls. (k, b) ∷ ls) (take_links stands (from (suc k) n) room rest)).0 q in
         let spells = later room rest s i in
         subst (LinksSpelled stands k (suc n) (b ∷ rest)) same
         (record {
@@ -116,13 +116,13 @@ links-spelled stands k (suc n) room rest t e = go (stands k) refl e (links-spell
         })
 
     skipped : stands k ≡ false → LinksSpelled stands (suc k) n rest t → (f : ℕ) → k ≤ f → f < k + suc n → Dec (k ≡ f) →
-        countSome (target t.value f) ≡ cond (stands f) 1 0
+        count_some (target t.value f) ≡ cond (stands f) 1 0
     skipped h later f low high (yes q) =
-        ap (λ (o : Option ℕ). countSome o) (later.absent f (omega arith)) ∙ ap (λ (t : Bool). cond {A = ℕ} t 1 0) (sym (ap stands (sym q) ∙ h))
+        ap (λ (o : Option ℕ). count_some o) (later.absent f (omega arith)) ∙ ap (λ (t : Bool). cond {A = ℕ} t 1 0) (sym (ap stands (sym q) ∙ h))
     skipped h later f low high (no d) = later.stood f (omega arith) (omega arith)
 
     go : (b : Bool) → stands k ≡ b →
-        cond b (takeTarget k (takeLinks stands (from (suc k) n)) room rest) (takeLinks stands (from (suc k) n) room rest) ≡ some t →
+        cond b (take_target k (take_links stands (from (suc k) n)) room rest) (take_links stands (from (suc k) n) room rest) ≡ some t →
         Later → LinksSpelled stands k (suc n) rest t
     go true h q later = taken room rest h q later
     go false h q later =
@@ -135,18 +135,18 @@ links-spelled stands k (suc n) room rest t e = go (stands k) refl e (links-spell
 
 -- The map: a byte is the number whose bits say which features stand.
 
-bits_of : (links : List (ℕ × ℕ)) (f k b : ℕ) → b < 2 ^ k → ((i : ℕ) → i < k → countSome (target links (f + i)) ≡ (b / 2 ^ i) % 2) →
-    bitsFrom links f k ≡ b
-unfolding bitsFrom
+bits_of : (links : List (ℕ × ℕ)) (f k b : ℕ) → b < 2 ^ k → ((i : ℕ) → i < k → count_some (target links (f + i)) ≡ (b / 2 ^ i) % 2) →
+    bits_from links f k ≡ b
+unfolding bits_from
 bits_of links f zero b small digits = omega arith
 bits_of links f (suc k) b small digits =
-    let first : countSome (target links f) ≡ b / 1 % 2 = ap (λ (n : ℕ). countSome (target links n)) (sym (add-zero f)) ∙ digits 0 (omega arith) in
-    let rest : bitsFrom links (suc f) k ≡ b / 2 =
+    let first : count_some (target links f) ≡ b / 1 % 2 = ap (λ (n : ℕ). count_some (target links n)) (sym (add-zero f)) ∙ digits 0 (omega arith) in
+    let rest : bits_from links (suc f) k ≡ b / 2 =
     bits_of links (suc f) k (b / 2) (omega (arith, pow-suc 2 k))
     (λ i l.
     let q : suc f + i ≡ f + suc i = omega arith in
     let p : suc i ≡ 1 + i = omega arith in
-    ap (λ (n : ℕ). countSome (target links n)) q
+    ap (λ (n : ℕ). count_some (target links n)) q
     ∙ digits (suc i) (omega arith)
     ∙ ap (λ (n : ℕ). b / 2 ^ n % 2) p
     ∙ ap (λ (n : ℕ). n % 2) (sym (shr-shr b 1 i))) in
@@ -171,11 +171,11 @@ bit-number n = go (eqb (n % 2) 1) refl
 
 -- the bytes of a map are the numbers of the features that were taken by it
 map-spelled : (behind : List ℕ) → AreBytes behind → 8 ≤ length behind → (links : List (ℕ × ℕ)) →
-    ((f : ℕ) → f < 64 → countSome (target links f) ≡ cond (bit_of behind f) 1 0) →
-    behind ≡ mapBytes links ++ drop 8 behind
+    ((f : ℕ) → f < 64 → count_some (target links f) ≡ cond (bit_of behind f) 1 0) →
+    behind ≡ map_bytes links ++ drop 8 behind
 unfolding bit_of
 map-spelled behind small long links stood =
-    made-from (λ k. bitsFrom links (8 * k) 8) 0 8 behind long
+    made-from (λ k. bits_from links (8 * k) 8) 0 8 behind long
     (λ k l.
     sym
     (bits_of links (8 * (0 + k)) 8 (get_or behind k 0) (byte-below behind small k)
@@ -189,14 +189,14 @@ map-spelled behind small long links stood =
 -- The row.
 
 RowSpelled : List ℕ → Taken (Row Label) → Type 0
-RowSpelled rest t = (writes : Bool) × (rest ≡ spelledRow writes t.value ++ t.rest) × (isFull t.value.0 ≡ false → writes ≡ true)
+RowSpelled rest t = (writes : Bool) × (rest ≡ spelled_row writes t.value ++ t.rest) × (is_full t.value.0 ≡ false → writes ≡ true)
 
 row-spelled : (room : ℕ) (rest : List ℕ) (t : Taken (Row Label)) → AreBytes rest → take_row room rest ≡ some t → RowSpelled rest t
-unfolding take_row spelledRow RowSpelled
+unfolding take_row spelled_row RowSpelled
 row-spelled room rest t small e =
-    let n = labelLength rest in
+    let n = label_length rest in
     let behind = drop n rest in
-    let links = takeLinks (bit_of behind) features room (drop (n + 8) rest) in
+    let links = take_links (bit_of behind) features room (drop (n + 8) rest) in
     let (enough, q) = cond-some (leb (n + 8) (length rest)) (Option.map (changed λ ls. (label_of rest, ls)) links) t e in
     let (s, h, same) = (map-eq-some_iff (changed {Y = Row Label} λ ls. (label_of rest, ls)) links).0 q in
     let long : n + 8 ≤ length rest = leb-true (n + 8) (length rest) enough in
@@ -205,52 +205,52 @@ row-spelled room rest t small e =
     let map_is = map-spelled behind (λ b m. small b (drop-member n rest m)) (omega (arith, length-drop n rest)) s.value
     (λ f l. spells.stood f (omega arith) (omega arith)) in
     subst (RowSpelled rest) same (
-      isRanged (get_or rest 0 0),
+      is_ranged (get_or rest 0 0),
       Label-is
-          ∙ ap (λ (l : List ℕ). spelledLabel (isRanged (get_or rest 0 0)) (label_of rest) ++ l)
-          (map_is ∙ ap (λ (l : List ℕ). mapBytes s.value ++ l) (drop-drop 8 n rest ∙ spells.bytes-are))
+          ∙ ap (λ (l : List ℕ). spelled_label (is_ranged (get_or rest 0 0)) (label_of rest) ++ l)
+          (map_is ∙ ap (λ (l : List ℕ). map_bytes s.value ++ l) (drop-drop 8 n rest ∙ spells.bytes-are))
           ∙ sym
-          (append_assoc (spelledLabel (isRanged (get_or rest 0 0)) (label_of rest) ++ mapBytes s.value) (map (λ l. l.1) s.value) s.rest
-          ∙ append_assoc (spelledLabel (isRanged (get_or rest 0 0)) (label_of rest)) (mapBytes s.value) (map (λ l. l.1) s.value ++ s.rest)),
+          (append_assoc (spelled_label (is_ranged (get_or rest 0 0)) (label_of rest) ++ map_bytes s.value) (map (λ l. l.1) s.value) s.rest
+          ∙ append_assoc (spelled_label (is_ranged (get_or rest 0 0)) (label_of rest)) (map_bytes s.value) (map (λ l. l.1) s.value ++ s.rest)),
       range-spelled rest,
     )
 
 -- The rows.
 
 -- the first node and the others
-abbrev firstWrites : Bool → (ℕ → Bool) → ℕ → Bool
-firstWrites b writes zero = b
-firstWrites b writes (suc v) = writes v
+abbrev first_writes : Bool → (ℕ → Bool) → ℕ → Bool
+first_writes b writes zero = b
+first_writes b writes (suc v) = writes v
 
 RowsSpelled : List ℕ → Taken (List (Row Label)) → Type 0
-RowsSpelled rest t = (writes : ℕ → Bool) × (rest ≡ spelledRows writes t.value ++ t.rest) × WritesRanges writes t.value
+RowsSpelled rest t = (writes : ℕ → Bool) × (rest ≡ spelled_rows writes t.value ++ t.rest) × WritesRanges writes t.value
 
-rows-spelled : (k room : ℕ) (rest : List ℕ) (t : Taken (List (Row Label))) → AreBytes rest → takeRows k room rest ≡ some t → RowsSpelled rest t
-unfolding bind takeRows spelledRows RowSpelled RowsSpelled
+rows-spelled : (k room : ℕ) (rest : List ℕ) (t : Taken (List (Row Label))) → AreBytes rest → take_rows k room rest ≡ some t → RowsSpelled rest t
+unfolding bind take_rows spelled_rows RowSpelled RowsSpelled
 rows-spelled zero room rest t small e =
     subst (RowsSpelled rest) (some-injective e) (λ v. false, refl, λ v l. absurd (omega arith))
 rows-spelled (suc k) room rest t small e = go (take_row room rest) refl e (rows-spelled k)
   where
     go : (o : Option (Taken (Row Label))) → take_row room rest ≡ o →
-        bind o (λ r. Option.map (changed λ rs. r.value ∷ rs) (takeRows k r.room r.rest)) ≡ some t →
-        ((room : ℕ) (rest : List ℕ) (t : Taken (List (Row Label))) → AreBytes rest → takeRows k room rest ≡ some t → RowsSpelled rest t) →
+        bind o (λ r. Option.map (changed λ rs. r.value ∷ rs) (take_rows k r.room r.rest)) ≡ some t →
+        ((room : ℕ) (rest : List ℕ) (t : Taken (List (Row Label))) → AreBytes rest → take_rows k room rest ≡ some t → RowsSpelled rest t) →
         RowsSpelled rest t
     go none h q later = none-some q
     go (some r) h q later =
-        let (s, i, same) = (map-eq-some_iff (changed λ rs. r.value ∷ rs) (takeRows k r.room r.rest)).0 q in
+        let (s, i, same) = (map-eq-some_iff (changed λ rs. r.value ∷ rs) (take_rows k r.room r.rest)).0 q in
         let (b, row_is, range) = row-spelled room rest r small h in
-        let left : AreBytes r.rest = λ x m. small x (subst (λ (l : List ℕ). Memᴰ x l) (sym row_is) (Memᴰ.append_right (spelledRow b r.value) m)) in
+        let left : AreBytes r.rest = λ x m. small x (subst (λ (l : List ℕ). Memᴰ x l) (sym row_is) (Memᴰ.append_right (spelled_row b r.value) m)) in
         let (writes, rows_are, ranges) = later r.room r.rest s left i in
         subst (RowsSpelled rest) same (
-          firstWrites b writes,
+          first_writes b writes,
           row_is
-              ∙ ap (λ (l : List ℕ). spelledRow b r.value ++ l) rows_are
-              ∙ sym (append_assoc (spelledRow b r.value) (spelledRows writes s.value) s.rest),
+              ∙ ap (λ (l : List ℕ). spelled_row b r.value ++ l) rows_are
+              ∙ sym (append_assoc (spelled_row b r.value) (spelled_rows writes s.value) s.rest),
           each b r.value s.value range writes ranges,
         )
       where
-        each : (b : Bool) (r : Row Label) (rs : List (Row Label)) → (isFull r.0 ≡ false → b ≡ true) → (writes : ℕ → Bool) → WritesRanges writes rs →
-            WritesRanges (firstWrites b writes) (r ∷ rs)
+        each : (b : Bool) (r : Row Label) (rs : List (Row Label)) → (is_full r.0 ≡ false → b ≡ true) → (writes : ℕ → Bool) → WritesRanges writes rs →
+            WritesRanges (first_writes b writes) (r ∷ rs)
         each b r rs range writes ranges zero l e = range e
         each b r rs range writes ranges (suc v) l e = ranges v (omega arith) e
 
@@ -259,7 +259,7 @@ pub decoded-spells : (bytes : List ℕ) → AreBytes bytes → (rows : List (Row
     (writes : ℕ → Bool) × Spells bytes rows writes
 unfolding decoded spelled RowsSpelled
 decoded-spells [] small rows e = none-some e
-decoded-spells (n ∷ rest) small rows e = go (eqb n 0) (takeRows n 2048 rest) refl e
+decoded-spells (n ∷ rest) small rows e = go (eqb n 0) (take_rows n 2048 rest) refl e
   where
     says : Decoded (n ∷ rest) rows
     says = decoded-says (n ∷ rest) rows e
@@ -274,7 +274,7 @@ decoded-spells (n ∷ rest) small rows e = go (eqb n 0) (takeRows n 2048 rest) r
           features = λ r m. (says.ordered r m).1;
         }
 
-    go : (b : Bool) (o : Option (Taken (List (Row Label)))) → takeRows n 2048 rest ≡ o → cond b none (whole o) ≡ some rows →
+    go : (b : Bool) (o : Option (Taken (List (Row Label)))) → take_rows n 2048 rest ≡ o → cond b none (whole o) ≡ some rows →
         (writes : ℕ → Bool) × Spells (n ∷ rest) rows writes
     go true o h q = none-some q
     go false none h q = none-some q
@@ -289,8 +289,8 @@ decoded-spells (n ∷ rest) small rows e = go (eqb n 0) (takeRows n 2048 rest) r
             bytes-are =
                 ap₂ (λ (a : ℕ) (l : List ℕ). a ∷ l) (sym says.count)
                 (rest-is
-                ∙ ap₂ (λ (rs : List (Row Label)) (l : List ℕ). spelledRows writes rs ++ l) value-is end
-                ∙ append-nil (spelledRows writes rows));
+                ∙ ap₂ (λ (rs : List (Row Label)) (l : List ℕ). spelled_rows writes rs ++ l) value-is end
+                ∙ append-nil (spelled_rows writes rows));
             ranges = subst (WritesRanges writes) value-is ranges;
           },
         )
@@ -301,25 +301,25 @@ decoded-spells (n ∷ rest) small rows e = go (eqb n 0) (takeRows n 2048 rest) r
 
 -- Bytes tell which ranges they write.
 
-rows-unique : (rows : List (Row Label)) (w w' : ℕ → Bool) → spelledRows w rows ≡ spelledRows w' rows → (v : ℕ) → v < length rows → w v ≡ w' v
-unfolding spelledRows spelledRow spelledLabel
+rows-unique : (rows : List (Row Label)) (w w' : ℕ → Bool) → spelled_rows w rows ≡ spelled_rows w' rows → (v : ℕ) → v < length rows → w v ≡ w' v
+unfolding spelled_rows spelled_row spelled_label
 rows-unique [] w w' e v l = absurd (omega arith)
 rows-unique (r ∷ rs) w w' e v l = go (w 0) (w' 0) refl refl e v l (rows-unique rs (λ v. w (suc v)) (λ v. w' (suc v)))
   where
     Later : Type 0
-    Later = spelledRows (λ v. w (suc v)) rs ≡ spelledRows (λ v. w' (suc v)) rs → (v : ℕ) → v < length rs → w (suc v) ≡ w' (suc v)
+    Later = spelled_rows (λ v. w (suc v)) rs ≡ spelled_rows (λ v. w' (suc v)) rs → (v : ℕ) → v < length rs → w (suc v) ≡ w' (suc v)
 
     each : w 0 ≡ w' 0 → ((v : ℕ) → v < length rs → w (suc v) ≡ w' (suc v)) → (v : ℕ) → v < suc (length rs) → w v ≡ w' v
     each here later zero l = here
     each here later (suc v) l = later v (omega arith)
 
     go : (a b : Bool) → w 0 ≡ a → w' 0 ≡ b →
-        spelledRow a r ++ spelledRows (λ v. w (suc v)) rs ≡ spelledRow b r ++ spelledRows (λ v. w' (suc v)) rs → (v : ℕ) → v < suc (length rs) →
+        spelled_row a r ++ spelled_rows (λ v. w (suc v)) rs ≡ spelled_row b r ++ spelled_rows (λ v. w' (suc v)) rs → (v : ℕ) → v < suc (length rs) →
         Later → w v ≡ w' v
     go true true p q e v l later =
-        each (p ∙ sym q) (later (append_cancel_left (spelledRow true r) (spelledRows (λ v. w (suc v)) rs) (spelledRows (λ v. w' (suc v)) rs) e)) v l
+        each (p ∙ sym q) (later (append_cancel_left (spelled_row true r) (spelled_rows (λ v. w (suc v)) rs) (spelled_rows (λ v. w' (suc v)) rs) e)) v l
     go false false p q e v l later =
-        each (p ∙ sym q) (later (append_cancel_left (spelledRow false r) (spelledRows (λ v. w (suc v)) rs) (spelledRows (λ v. w' (suc v)) rs) e)) v l
+        each (p ∙ sym q) (later (append_cancel_left (spelled_row false r) (spelled_rows (λ v. w (suc v)) rs) (spelled_rows (λ v. w' (suc v)) rs) e)) v l
     go true false p q e v l later = absurd (omega (arith, ap (λ (l : List ℕ). get_or l 0 0) e))
     go false true p q e v l later = absurd (omega (arith, ap (λ (l : List ℕ). get_or l 0 0) e))
 

@@ -1,6 +1,6 @@
 -- This file states the theorems about records in one place, each with a line that cites its proof. The text beside it is document 01,
 -- "Graph record" and "Returned by a call", and document 02, Paper 7, for ranges of levels. A record is a list of bytes, read over a table
--- with n types; its rows are a label and links for each node, and `graphOfRows rows` is the graph that they state. Nothing here asks that
+-- with n types; its rows are a label and links for each node, and `graph_of_rows rows` is the graph that they state. Nothing here asks that
 -- the types are a lattice.
 use mathlib.Core.Path.{◌≡◌, sym, ◌∙◌, ap}
 use mathlib.Core.Bool.{Bool, true, false, not}
@@ -13,14 +13,14 @@ use lib.ListN.{length, get_or}
 use Rattle.graphs.specs.Graph.{Graph, TellsApart, follow, Reached, SameMeaning}
 use Rattle.graphs.specs.Rows.{Row, from}
 use Rattle.graphs.specs.Number.{canonical, written}
-use Rattle.graphs.specs.Large.{linksIn, Ascending}
+use Rattle.graphs.specs.Large.{links_in, Ascending}
 use Rattle.graphs.proofs.Lists.{tells-eqb}
 use Rattle.lattice.specs.Label.{Label}
 use Rattle.record.specs.declared.GraphFault.TheVariants.{Malformed, OutOfRange, Cyclic, Unreached}
-use Rattle.lattice.specs.Labels.{tableLabels, Known, OfAnySize}
+use Rattle.lattice.specs.Labels.{table_labels, Known, OfAnySize}
 use Rattle.decode.specs.Decode.{AreBytes, decoded}
-use Rattle.encoder.specs.Encode.{isFull, encoded}
-use Rattle.record.specs.Read.{graphOfRows, in_range, cyclic, reachesAll, judged, reading, accepted, refused}
+use Rattle.encoder.specs.Encode.{is_full, encoded}
+use Rattle.record.specs.Read.{graph_of_rows, in_range, cyclic, reaches_all, judged, reading, accepted, refused}
 use Rattle.record.specs.Spelled.{Statable, Spells}
 use Rattle.record.proofs.Readings.{reading-says, in-range}
 use Rattle.decode.proofs.Decoded.{decoded-says, decoded-short, decoded-label, decoded-target}
@@ -37,7 +37,7 @@ module _ (n : ℕ) (bytes : List ℕ) where
 
   pub accepted-exactly : (rows : List (Row Label)) →
       (reading n bytes ≡ accepted rows) ↔
-      ((decoded bytes ≡ some rows) × (in_range n rows ≡ true) × (cyclic rows ≡ false) × (reachesAll rows ≡ true))
+      ((decoded bytes ≡ some rows) × (in_range n rows ≡ true) × (cyclic rows ≡ false) × (reaches_all rows ≡ true))
   accepted-exactly rows = reading-says n bytes (accepted rows)
 
   pub malformed-exactly : (reading n bytes ≡ refused Malformed) ↔ (decoded bytes ≡ none)
@@ -52,7 +52,7 @@ module _ (n : ℕ) (bytes : List ℕ) where
   cyclic-exactly = reading-says n bytes (refused Cyclic)
 
   pub unreached-exactly : (reading n bytes ≡ refused Unreached) ↔
-      ((rows : List (Row Label)) × (decoded bytes ≡ some rows) × (in_range n rows ≡ true) × (cyclic rows ≡ false) × (reachesAll rows ≡ false))
+      ((rows : List (Row Label)) × (decoded bytes ≡ some rows) × (in_range n rows ≡ true) × (cyclic rows ≡ false) × (reaches_all rows ≡ false))
   unreached-exactly = reading-says n bytes (refused Unreached)
 
   -- the test for 5: no "type that is 0 or at least n", no "lowest level above the highest", no "target at least N"
@@ -67,7 +67,7 @@ module _ (n : ℕ) (bytes : List ℕ) where
     -- "Byte 0 is the node count N .. feature f, 0 to 63 .. lowest feature first .. At most 2,048 links in all"
     pub well-formed : (0 < length rows) ×
         (length rows ≡ get_or bytes 0 0) ×
-        (linksIn rows ≤ 2048) ×
+        (links_in rows ≤ 2048) ×
         ((r : Row Label) → Memᴰ r rows → Ascending r.1 × ((l : ℕ × ℕ) → Memᴰ l r.1 → l.0 < 64))
     well-formed = let says = decoded-says bytes rows parsed in (says.nonempty, says.count, says.few-links, says.ordered)
 
@@ -90,18 +90,18 @@ module _ (n : ℕ) (bytes : List ℕ) where
           (v < length rows) ×
           (f : ℕ) ×
           (p : List ℕ) ×
-          (follow (graphOfRows rows).link (some v) (f ∷ p) ≡ some v))
+          (follow (graph_of_rows rows).link (some v) (f ∷ p) ≡ some v))
       cycle-exact = cyclic-exact rows linked
 
       -- 3. The test for 7: not "a node the root does not reach".
 
-      pub reach-exact : length rows ≤ 255 → (reachesAll rows ≡ true) ↔ ((v : ℕ) → v < length rows → Reached (graphOfRows rows) v)
+      pub reach-exact : length rows ≤ 255 → (reaches_all rows ≡ true) ↔ ((v : ℕ) → v < length rows → Reached (graph_of_rows rows) v)
       reach-exact short = (λ q. ((reaches-exact rows linked).0 q).1, λ all. (reaches-exact rows linked).1 (short, all))
 
 module _ (n : ℕ) (bytes : List ℕ) (rows : List (Row Label)) (ok : reading n bytes ≡ accepted rows) where
   -- 4. "A graph of any size keeps every rule of an accepted record but the counts of nodes and links": an accepted record states one.
 
-  pub accepted-of-any-size : (t : List ℕ) → OfAnySize n t (graphOfRows rows)
+  pub accepted-of-any-size : (t : List ℕ) → OfAnySize n t (graph_of_rows rows)
   accepted-of-any-size t = rules-of-any-size n rows (accepted-rules n bytes rows ok) t
 
   pub accepted-nodes : (t : List ℕ) → (accepted-of-any-size t).any-size.nodes ≡ from 0 (length rows)
@@ -109,20 +109,20 @@ module _ (n : ℕ) (bytes : List ℕ) (rows : List (Row Label)) (ok : reading n 
   accepted-nodes t = rules-nodes n rows (accepted-rules n bytes rows ok) t
 
   -- its types are those that a type byte states
-  pub accepted-types : (v : ℕ) → Reached (graphOfRows rows) v → ((graphOfRows rows).label v).type < 128
+  pub accepted-types : (v : ℕ) → Reached (graph_of_rows rows) v → ((graph_of_rows rows).label v).type < 128
   accepted-types = rules-types n rows (accepted-rules n bytes rows ok)
 
   -- 5. An accepted record fits: 11 never applies to it.
 
-  pub accepted-fits : (form : List (Row Label)) × (canonical eqb (graphOfRows rows) ≡ written form)
+  pub accepted-fits : (form : List (Row Label)) × (canonical eqb (graph_of_rows rows) ≡ written form)
   accepted-fits = rules-fit n rows (accepted-rules n bytes rows ok)
 
 -- 6. Accepted records have equal meaning exactly when they are written as equal bytes.
 
 pub meaning-exact : (n : ℕ) (t : List ℕ) (bytes bytes' : List ℕ) (rows rows' : List (Row Label)) →
     reading n bytes ≡ accepted rows → reading n bytes' ≡ accepted rows' → (form form' : List (Row Label)) →
-    canonical eqb (graphOfRows rows) ≡ written form → canonical eqb (graphOfRows rows') ≡ written form' →
-    SameMeaning (tableLabels n t) (graphOfRows rows) (graphOfRows rows') ↔ (encoded form ≡ encoded form')
+    canonical eqb (graph_of_rows rows) ≡ written form → canonical eqb (graph_of_rows rows') ≡ written form' →
+    SameMeaning (table_labels n t) (graph_of_rows rows) (graph_of_rows rows') ↔ (encoded form ≡ encoded form')
 meaning-exact n t bytes bytes' rows rows' ok ok' form form' e e' =
     Rewritten.meaning-by-bytes n t rows rows' (accepted-rules n bytes rows ok)
     (accepted-rules n bytes' rows' ok') form form' e e'
@@ -131,20 +131,20 @@ meaning-exact n t bytes bytes' rows rows' ok ok' form form' e e' =
 
 pub written-reads : (n : ℕ) (t : List ℕ) {A : Type 0} (same : A → A → Bool) → TellsApart same → (g : Graph Label A) → OfAnySize n t g →
     (form : List (Row Label)) → canonical same g ≡ written form → ((v : A) → Reached g v → (g.label v).type < 128) →
-    (reading n (encoded form) ≡ accepted form) × SameMeaning (tableLabels n t) g (graphOfRows form)
+    (reading n (encoded form) ≡ accepted form) × SameMeaning (table_labels n t) g (graph_of_rows form)
 written-reads n t same tells g size form e types = Rewritten.written-reads n t same tells g size form e types
 
 -- 8. A written record is accepted, is its own written record, and means what was written.
 
 pub written-accepted : (n : ℕ) (t : List ℕ) (bytes : List ℕ) (rows : List (Row Label)) →
-    reading n bytes ≡ accepted rows → (form : List (Row Label)) → canonical eqb (graphOfRows rows) ≡ written form →
+    reading n bytes ≡ accepted rows → (form : List (Row Label)) → canonical eqb (graph_of_rows rows) ≡ written form →
     (reading n (encoded form) ≡ accepted form) ×
-    (canonical eqb (graphOfRows form) ≡ written form) ×
-    SameMeaning (tableLabels n t) (graphOfRows rows) (graphOfRows form)
+    (canonical eqb (graph_of_rows form) ≡ written form) ×
+    SameMeaning (table_labels n t) (graph_of_rows rows) (graph_of_rows form)
 written-accepted n t bytes rows ok form e =
     let size = accepted-of-any-size n bytes rows ok t in
-    let (read, means) = written-reads n t eqb tells-eqb (graphOfRows rows) size form e (accepted-types n bytes rows ok) in
-    (read, Rewritten.form-again n t eqb tells-eqb (graphOfRows rows) size form e, means)
+    let (read, means) = written-reads n t eqb tells-eqb (graph_of_rows rows) size form e (accepted-types n bytes rows ok) in
+    (read, Rewritten.form-again n t eqb tells-eqb (graph_of_rows rows) size form e, means)
 
 -- 9. The parser is the inverse of spelling: bytes are parsed to rows exactly where they spell them, with each range written or left out.
 
@@ -164,5 +164,5 @@ unfolding reading
 spelled-alike n bytes bytes' rows writes writes' one other = ap (judged n) (Spelled.spells-decoded one ∙ sym (Spelled.spells-decoded other))
 
 -- The bytes that rows are encoded as write the ranges that are not full, and no others.
-pub encoded-spells : (rows : List (Row Label)) → Statable rows → Spells (encoded rows) rows (λ v. not (isFull ((graphOfRows rows).label v)))
+pub encoded-spells : (rows : List (Row Label)) → Statable rows → Spells (encoded rows) rows (λ v. not (is_full ((graph_of_rows rows).label v)))
 encoded-spells rows can = record { statable = can; bytes-are = encoded-spelled rows; ranges = not-full-written rows }

@@ -14,29 +14,29 @@ use Rattle.record.specs.declared.GraphFault.TheVariants.{Inappropriate}
 use Rattle.record.specs.Read.{Reading, refused, accepted, reading}
 
 -- A list is accepted where it is not refused by 17: "A list entry of n or more, or a list not of 64 bytes, is 17".
-unfoldable pub listAccepted : ℕ → List ℕ → Bool
-listAccepted n list = eqb (length list) 64 && every 64 λ f. leb (suc (get_or list f 0)) n
+unfoldable pub list_accepted : ℕ → List ℕ → Bool
+list_accepted n list = eqb (length list) 64 && every 64 λ f. leb (suc (get_or list f 0)) n
 
 -- a node of this type may have the feature
 abbrev pub allowed : List ℕ → List ℕ → ℕ → ℕ → Bool
 allowed t list type f = below t type (get_or list f 0)
 
 -- no link of a row is one "that the list forbids"
-unfoldable pub rowAppropriate : List ℕ → List ℕ → Row Label → Bool
-rowAppropriate t list r = all_of r.1 λ l. allowed t list r.0.type l.0
+unfoldable pub row_appropriate : List ℕ → List ℕ → Row Label → Bool
+row_appropriate t list r = all_of r.1 λ l. allowed t list r.0.type l.0
 
 -- no link of a graph is one "that the list forbids"
 unfoldable pub appropriate : List ℕ → List ℕ → List (Row Label) → Bool
-appropriate t list rows = all_of rows (rowAppropriate t list)
+appropriate t list rows = all_of rows (row_appropriate t list)
 
 -- "a graph with a link that the list forbids is 18, straight after that graph's 7"
-abbrev pub judgedAppropriate : List ℕ → List ℕ → Reading → Reading
-judgedAppropriate t list (refused fault) = refused fault
-judgedAppropriate t list (accepted rows) = cond (appropriate t list rows) (accepted rows) (refused Inappropriate)
+abbrev pub judged_appropriate : List ℕ → List ℕ → Reading → Reading
+judged_appropriate t list (refused fault) = refused fault
+judged_appropriate t list (accepted rows) = cond (appropriate t list rows) (accepted rows) (refused Inappropriate)
 
 -- what reading a record beside a list answers
-unfoldable pub readingAppropriate : ℕ → List ℕ → List ℕ → List ℕ → Reading
-readingAppropriate n t list bytes = judgedAppropriate t list (reading n bytes)
+unfoldable pub reading_appropriate : ℕ → List ℕ → List ℕ → List ℕ → Reading
+reading_appropriate n t list bytes = judged_appropriate t list (reading n bytes)
 
 -- A graph of any size obeys the list: the node that a path leads to has only features that it may have.
 abbrev pub Appropriate : List ℕ → List ℕ → {A : Type 0} → Graph Label A → Type 0

@@ -2,7 +2,7 @@
 -- The crates that compute on graphs ask for words that are `Loaded`.
 use Rattle.std.specs.Prelude.{◌≡◌, List, ℕ, ◌+◌, ◌*◌, ◌≤◌, ◌<◌}
 use Rattle.graphs.specs.Rows.{Row}
-use Rattle.graphs.specs.Large.{linksIn}
+use Rattle.graphs.specs.Large.{links_in}
 use Rattle.lattice.specs.Label.{Label}
 use Rattle.lattice.specs.Labels.{Known}
 use Rattle.layout.specs.Layout.{size, label_at, rows_of, Sound}
@@ -12,9 +12,9 @@ use Rattle.record.specs.declared.reading.Verdict.TheVariants.{Accepted, Refused}
 use Rattle.record.specs.Read.{Reading, refused, accepted, reading}
 
 -- the verdict that a reading gives
-abbrev pub verdictOf : Reading → Verdict
-verdictOf (refused fault) = Refused fault
-verdictOf (accepted rows) = Accepted
+abbrev pub verdict_of : Reading → Verdict
+verdict_of (refused fault) = Refused fault
+verdict_of (accepted rows) = Accepted
 
 -- The words hold the given rows, over a table with n types.
 pub record Holds (n : ℕ) (rows : List (Row Label)) (ws : List ℕ) : Type 0 where
@@ -25,7 +25,7 @@ pub record Holds (n : ℕ) (rows : List (Row Label)) (ws : List ℕ) : Type 0 wh
 
 -- The verdict is that of the reading, and after an acceptance the words hold the rows.
 pub record ReadsAs (n : ℕ) (o : Reading) (v : Verdict) (ws : List ℕ) : Type 0 where
-  pub verdict : v ≡ verdictOf o
+  pub verdict : v ≡ verdict_of o
   pub graph : (rows : List (Row Label)) → o ≡ accepted rows → Holds n rows ws
 
 -- what reading a record promises of the verdict and the words
@@ -33,8 +33,8 @@ abbrev pub Reads : ℕ → List ℕ → Verdict → List ℕ → Type 0
 Reads n bytes v ws = ReadsAs n (reading n bytes) v ws
 
 -- the length of a record with the rows of the words and no range: the count, nine bytes for each node and one for each link
-abbrev pub unrangedLength : List ℕ → ℕ
-unrangedLength ws = 1 + 9 * size ws + linksIn (rows_of ws)
+abbrev pub unranged_length : List ℕ → ℕ
+unranged_length ws = 1 + 9 * size ws + links_in (rows_of ws)
 
 -- The record of the rows is accepted over a table with n types and states the same rows.
 abbrev pub Acceptable : ℕ → List (Row Label) → Type 0

@@ -6,7 +6,7 @@ use Rattle.std.proofs.Math.Option
 use Rattle.std.proofs.Math.Option.{Option, none, some, bind}
 use Rattle.graphs.specs.Rows.{Row, features}
 use Rattle.lattice.specs.Label.{Label, plain}
-use Rattle.decode.specs.Decode.{Taken, bit_of, changed, isRanged, takeLinks, take_row, whole}
+use Rattle.decode.specs.Decode.{Taken, bit_of, changed, is_ranged, take_links, take_row, whole}
 use Rattle.record.specs.Read.{Reading, judged}
 
 -- whether a test passes on what is left once a row is read; true where no row is read
@@ -15,38 +15,38 @@ onward test none = true
 onward test (some r) = test r
 
 -- whether no type byte of the next k rows has bit 7
-unfoldable pub rowsUnranged : ℕ → ℕ → List ℕ → Bool
-rowsUnranged zero room rest = true
-rowsUnranged (suc k) room rest =
-    not (isRanged (get_or rest 0 0)) && onward (λ r. rowsUnranged k r.room r.rest) (take_row room rest)
+unfoldable pub rows_unranged : ℕ → ℕ → List ℕ → Bool
+rows_unranged zero room rest = true
+rows_unranged (suc k) room rest =
+    not (is_ranged (get_or rest 0 0)) && onward (λ r. rows_unranged k r.room r.rest) (take_row room rest)
 
 -- whether no type byte of a record has bit 7
 unfoldable pub unranged : List ℕ → Bool
 unranged [] = true
-unranged (n ∷ rest) = rowsUnranged n 2048 rest
+unranged (n ∷ rest) = rows_unranged n 2048 rest
 
 -- the next row, over types alone: "one type byte, 8 bytes of feature map .., then one target byte for each standing bit"
-unfoldable pub takeTypedRow : ℕ → List ℕ → Option (Taken (Row ℕ))
-takeTypedRow room rest =
+unfoldable pub take_typed_row : ℕ → List ℕ → Option (Taken (Row ℕ))
+take_typed_row room rest =
     cond (leb 9 (length rest))
-    (Option.map (changed λ ls. (get_or rest 0 0, ls)) (takeLinks (bit_of (drop 1 rest)) features room (drop 9 rest)))
+    (Option.map (changed λ ls. (get_or rest 0 0, ls)) (take_links (bit_of (drop 1 rest)) features room (drop 9 rest)))
     none
 
 -- the next k rows, over types alone: "for each node in turn"
-unfoldable pub takeTypedRows : ℕ → ℕ → List ℕ → Option (Taken (List (Row ℕ)))
-takeTypedRows zero room rest = some (record { value = []; room = room; rest = rest })
-takeTypedRows (suc k) room rest =
-    bind (takeTypedRow room rest) λ r. Option.map (changed λ rs. r.value ∷ rs) (takeTypedRows k r.room r.rest)
+unfoldable pub take_typed_rows : ℕ → ℕ → List ℕ → Option (Taken (List (Row ℕ)))
+take_typed_rows zero room rest = some (record { value = []; room = room; rest = rest })
+take_typed_rows (suc k) room rest =
+    bind (take_typed_row room rest) λ r. Option.map (changed λ rs. r.value ∷ rs) (take_typed_rows k r.room r.rest)
 
 -- rows of types, with the full range at each node
-abbrev pub plainRows : List (Row ℕ) → List (Row Label)
-plainRows rows = map (λ r. (plain r.0, r.1)) rows
+abbrev pub plain_rows : List (Row ℕ) → List (Row Label)
+plain_rows rows = map (λ r. (plain r.0, r.1)) rows
 
 -- the rows that a record states over types alone: "The record ends there."
-unfoldable pub decodedTypes : List ℕ → Option (List (Row Label))
-decodedTypes [] = none
-decodedTypes (n ∷ rest) = cond (eqb n 0) none (whole (Option.map (changed plainRows) (takeTypedRows n 2048 rest)))
+unfoldable pub decoded_types : List ℕ → Option (List (Row Label))
+decoded_types [] = none
+decoded_types (n ∷ rest) = cond (eqb n 0) none (whole (Option.map (changed plain_rows) (take_typed_rows n 2048 rest)))
 
 -- what reading a record over types alone answers, with the same refusals 5 to 7
-unfoldable pub readingTypes : ℕ → List ℕ → Reading
-readingTypes n bytes = judged n (decodedTypes bytes)
+unfoldable pub reading_types : ℕ → List ℕ → Reading
+reading_types n bytes = judged n (decoded_types bytes)

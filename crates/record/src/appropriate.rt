@@ -2,9 +2,9 @@
 // refused as without a list, then by 18 where the graph has a link that the list forbids.
 
 ghost use Rattle.std.specs.Prelude.{◌≡◌, true, ◌≤◌, ◌<◌};
-ghost use Rattle.layout.specs.Layout.{label_at, linksAt, rows_of, size};
+ghost use Rattle.layout.specs.Layout.{label_at, links_at, rows_of, size};
 ghost use Rattle.decode.specs.Answers.{Roomy};
-ghost use Rattle.record.specs.Appropriate.{listAccepted, rowAppropriate, appropriate, readingAppropriate, Listed, Typed};
+ghost use Rattle.record.specs.Appropriate.{list_accepted, row_appropriate, appropriate, reading_appropriate, Listed, Typed};
 ghost use Rattle.record.specs.Reads.{ReadsAs};
 
 use crate::GraphFault;
@@ -12,7 +12,7 @@ use crate::reading::Verdict;
 
 // Whether a list has 64 entries, each of them one of the n types.
 pub fn is_list_accepted(n: usize, list: &[u8]) -> bool
-    ensures { result ≡ listAccepted n list.now }
+    ensures { result ≡ list_accepted n list.now }
 {
     if list.len() != 64 {
         return false;
@@ -31,7 +31,7 @@ pub fn is_list_accepted(n: usize, list: &[u8]) -> bool
 fn is_row_appropriate(table: &[u8], list: &[u8], graph: &[u16], v: usize) -> bool
     requires listed { Listed list.now }
     requires typed { Typed graph.now × (v < size graph.now) }
-    ensures { result ≡ rowAppropriate table.now list.now (label_at graph.now v, linksAt graph.now v) }
+    ensures { result ≡ row_appropriate table.now list.now (label_at graph.now v, links_at graph.now v) }
 {
     let label = layout::label_at(graph, v);
     let kind = label.kind as usize;
@@ -67,9 +67,9 @@ fn is_appropriate(table: &[u8], list: &[u8], graph: &[u16]) -> bool
 // Reads a record over a table with n types, beside an accepted list, into the lent words. What the words hold after a refusal is not
 // specified.
 pub fn read(n: usize, table: &[u8], list: &[u8], bytes: &[u8], graph: &mut [u16]) -> Verdict
-    requires n_bound { (n ≤ 64) × (listAccepted n list.now ≡ true) }
+    requires n_bound { (n ≤ 64) × (list_accepted n list.now ≡ true) }
     requires roomy { Roomy bytes.now graph.old }
-    ensures { ReadsAs n (readingAppropriate n table.now list.now bytes.now) result graph.new }
+    ensures { ReadsAs n (reading_appropriate n table.now list.now bytes.now) result graph.new }
 {
     let verdict = crate::reading::read(n, bytes, graph);
     match verdict {

@@ -3,7 +3,7 @@
 ghost use Rattle.std.specs.Prelude.{not, ◌≡◌, eqb};
 ghost use Rattle.layout.specs.Layout.{Shaped};
 ghost use Rattle.decode.specs.Answers.{Roomy};
-ghost use Rattle.record.specs.Reads.{Reads, unrangedLength};
+ghost use Rattle.record.specs.Reads.{Reads, unranged_length};
 
 use crate::GraphFault;
 
@@ -17,7 +17,7 @@ pub enum Verdict {
 // Whether a record of the given length that states the graph writes a range. Each written range takes two bytes more.
 fn has_ranges(length: usize, graph: &[u16]) -> bool
     requires { Shaped graph.now }
-    ensures { result ≡ not (eqb length (unrangedLength graph.now)) }
+    ensures { result ≡ not (eqb length (unranged_length graph.now)) }
 {
     let nodes = graph[0] as usize;
     let rows = graph[nodes + 1] as usize - graph[1] as usize;

@@ -10,30 +10,30 @@ use Rattle.replies.specs.declared.Reply.{Reply}
 use Rattle.replies.specs.Reply.{answer_of}
 
 -- The number of a side. 0 stands for a refusal that tells no graph.
-abbrev pub sideNumber : Side → ℕ
-sideNumber First = 1
-sideNumber Second = 2
+abbrev pub side_number : Side → ℕ
+side_number First = 1
+side_number Second = 2
 
 -- The code of a refusal.
-abbrev pub refusalCode : ℕ → ℕ → ℕ
-refusalCode number which = 4294967296 + 256 * which + number
+abbrev pub refusal_code : ℕ → ℕ → ℕ
+refusal_code number which = 4294967296 + 256 * which + number
 
 -- The code of counts. There are at most 255 nodes and 2,048 rows, so the remainders are the counts.
-abbrev pub countsCode : ℕ → ℕ → ℕ
-countsCode nodes rows = 17179869184 + 65536 * (nodes % 65536) + rows % 65536
+abbrev pub counts_code : ℕ → ℕ → ℕ
+counts_code nodes rows = 17179869184 + 65536 * (nodes % 65536) + rows % 65536
 
 -- The code of what a reply tells.
-abbrev pub codeFor : Answer → ℕ
-codeFor (Length l) = l
-codeFor Same = 8589934592
-codeFor Under = 8589934593
-codeFor Above = 8589934594
-codeFor Neither = 8589934595
-codeFor (Counts nodes rows) = countsCode nodes rows
-codeFor End = 8589934596
-codeFor (Refused number) = refusalCode number 0
-codeFor (RefusedGraph number which) = refusalCode number (sideNumber which)
+abbrev pub code_for : Answer → ℕ
+code_for (Length l) = l
+code_for Same = 8589934592
+code_for Under = 8589934593
+code_for Above = 8589934594
+code_for Neither = 8589934595
+code_for (Counts nodes rows) = counts_code nodes rows
+code_for End = 8589934596
+code_for (Refused number) = refusal_code number 0
+code_for (RefusedGraph number which) = refusal_code number (side_number which)
 
 -- The code of a reply.
 abbrev pub code_of : Reply → ℕ
-code_of reply = codeFor (answer_of reply)
+code_of reply = code_for (answer_of reply)

@@ -16,9 +16,9 @@ pub record YieldBoth : Type 0 where
   pub reasons : List ℕ
 
 -- This code with these outputs.
-abbrev pub yieldingBoth : ℕ → List ℕ → List ℕ → YieldBoth
-yieldingBoth answer output reasons = record { answer = answer; output = output; reasons = reasons }
+abbrev pub yielding_both : ℕ → List ℕ → List ℕ → YieldBoth
+yielding_both answer output reasons = record { answer = answer; output = output; reasons = reasons }
 
 -- The code of the reply of a call with reasons, with both outputs.
-abbrev pub codedBoth : Explained → YieldBoth
-codedBoth result = yieldingBoth (code_of result.reply) result.output result.reasons
+abbrev pub coded_both : Explained → YieldBoth
+coded_both result = yielding_both (code_of result.reply) result.output result.reasons

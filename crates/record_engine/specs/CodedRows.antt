@@ -11,14 +11,14 @@ pub record YieldRows : Type 0 where
   pub nodes : List ℕ
 
 -- This code with these rows and node bytes.
-abbrev pub yieldingRows : ℕ → List lent.Row → List ℕ → YieldRows
-yieldingRows answer rows nodes = record { answer = answer; rows = rows; nodes = nodes }
+abbrev pub yielding_rows : ℕ → List lent.Row → List ℕ → YieldRows
+yielding_rows answer rows nodes = record { answer = answer; rows = rows; nodes = nodes }
 
 -- The code of export's reply, with the rows and node bytes.
-abbrev pub codedRows : Exported → YieldRows
-codedRows result = yieldingRows (code_of result.reply) result.rows result.nodes
+abbrev pub coded_rows : Exported → YieldRows
+coded_rows result = yielding_rows (code_of result.reply) result.rows result.nodes
 
 -- Whichever `room` rows are lent, storing the first `count` rows of `at` there gives the export.
 abbrev pub Stores : (List lent.Row → Exported) → ℕ → ℕ → ℕ → List lent.Row → List ℕ → Type 0
 Stores export room answer count at nodes =
-    (rows : List lent.Row) → length rows ≡ room → yieldingRows answer (take count at ++ drop count rows) nodes ≡ codedRows (export rows)
+    (rows : List lent.Row) → length rows ≡ room → yielding_rows answer (take count at ++ drop count rows) nodes ≡ coded_rows (export rows)

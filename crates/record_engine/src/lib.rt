@@ -5,16 +5,16 @@
 
 ghost use Rattle.std.specs.Prelude.{◌≡◌, ◌<◌, ◌≤◌, take};
 ghost use Rattle.encode.specs.Encode.{yielding};
-ghost use Rattle.calls.specs.Calls.{checking, rewriting, ordering, generalizing, unifying, differing, differingBy};
-ghost use Rattle.calls.specs.Appropriate.{rewritingAppropriate, generalizingAppropriate, unifyingAppropriate};
-ghost use Rattle.calls.specs.Explained.{explaining, explainingBy};
+ghost use Rattle.calls.specs.Calls.{checking, rewriting, ordering, generalizing, unifying, differing, differing_by};
+ghost use Rattle.calls.specs.Appropriate.{rewriting_appropriate, generalizing_appropriate, unifying_appropriate};
+ghost use Rattle.calls.specs.Explained.{explaining, explaining_by};
 ghost use Rattle.listing.specs.Call.{stepping};
 ghost use Rattle.store.specs.Calls.{dropping, fetching, putting};
 ghost use Rattle.gathering.specs.Gathering.{begun, adding, comparing, finishing};
-ghost use Rattle.planning.specs.Planning.{importing, importingRows, exporting};
-ghost use Rattle.record_engine.specs.Code.{code_of, countsCode, refusalCode, sideNumber};
-ghost use Rattle.record_engine.specs.Coded.{coded, codedBoth, yieldingBoth};
-ghost use Rattle.record_engine.specs.CodedRows.{Stores, codedRows, yieldingRows};
+ghost use Rattle.planning.specs.Planning.{importing, importing_rows, exporting};
+ghost use Rattle.record_engine.specs.Code.{code_of, counts_code, refusal_code, side_number};
+ghost use Rattle.record_engine.specs.Coded.{coded, coded_both, yielding_both};
+ghost use Rattle.record_engine.specs.CodedRows.{Stores, coded_rows, yielding_rows};
 ghost use Rattle.record_engine.specs.House.{tabling};
 
 use replies::answers::Answer;
@@ -38,7 +38,7 @@ pub extern "C" fn record_rewrite_appropriate(
     bytes: &[u8],
     out: &mut [u8],
 ) -> u64
-    ensures { yielding result out.new ≡ coded (rewritingAppropriate n table.now list.now bytes.now out.old) }
+    ensures { yielding result out.new ≡ coded (rewriting_appropriate n table.now list.now bytes.now out.old) }
 {
     code(calls::rewriting::rewrite_appropriate(n, table, list, bytes, out))
 }
@@ -76,7 +76,7 @@ pub extern "C" fn record_generalize_appropriate(
     second: &[u8],
     out: &mut [u8],
 ) -> u64
-    ensures { yielding result out.new ≡ coded (generalizingAppropriate n table.now list.now first.now second.now out.old) }
+    ensures { yielding result out.new ≡ coded (generalizing_appropriate n table.now list.now first.now second.now out.old) }
 {
     code(calls::generalizing::generalize_appropriate(n, table, list, first, second, out))
 }
@@ -106,7 +106,7 @@ pub extern "C" fn record_unify_appropriate(
     second: &[u8],
     out: &mut [u8],
 ) -> u64
-    ensures { yielding result out.new ≡ coded (unifyingAppropriate n table.now list.now first.now second.now out.old) }
+    ensures { yielding result out.new ≡ coded (unifying_appropriate n table.now list.now first.now second.now out.old) }
 {
     code(calls::unifying::unify_appropriate(n, table, list, first, second, out))
 }
@@ -135,7 +135,7 @@ pub extern "C" fn record_difference_by(
     second: &[u8],
     out: &mut [u8],
 ) -> u64
-    ensures { yielding result out.new ≡ coded (differingBy n table.now list.now first.now second.now out.old) }
+    ensures { yielding result out.new ≡ coded (differing_by n table.now list.now first.now second.now out.old) }
 {
     code(calls::differing::difference_by(n, table, list, first, second, out))
 }
@@ -150,8 +150,8 @@ pub extern "C" fn record_difference_explained(
     out: &mut [u8],
     reasons: &mut [u8],
 ) -> u64
-    ensures { yieldingBoth result out.new reasons.new ≡
-        codedBoth (explaining n table.now first.now second.now out.old reasons.old) }
+    ensures { yielding_both result out.new reasons.new ≡
+        coded_both (explaining n table.now first.now second.now out.old reasons.old) }
 {
     code(calls::differing::difference_explained(n, table, first, second, out, reasons))
 }
@@ -167,8 +167,8 @@ pub extern "C" fn record_difference_explained_by(
     out: &mut [u8],
     reasons: &mut [u8],
 ) -> u64
-    ensures { yieldingBoth result out.new reasons.new ≡
-        codedBoth (explainingBy n table.now list.now first.now second.now out.old reasons.old) }
+    ensures { yielding_both result out.new reasons.new ≡
+        coded_both (explaining_by n table.now list.now first.now second.now out.old reasons.old) }
 {
     code(calls::differing::difference_explained_by(n, table, list, first, second, out, reasons))
 }
@@ -270,7 +270,7 @@ pub extern "C" fn record_import(
     nodes: &[u8],
     out: &mut [u8],
 ) -> u64
-    ensures { yielding result out.new ≡ coded (importingRows n table.now rows.now nodes.now out.old) }
+    ensures { yielding result out.new ≡ coded (importing_rows n table.now rows.now nodes.now out.old) }
 {
     let count = rows.len();
     let all = rows::load_rows(rows);
@@ -286,8 +286,8 @@ pub extern "C" fn record_export(
     rows: &mut [Row],
     nodes: &mut [u8],
 ) -> u64
-    ensures { yieldingRows result rows.new nodes.new ≡
-        codedRows (exporting n table.now bytes.now rows.old nodes.old) }
+    ensures { yielding_rows result rows.new nodes.new ≡
+        coded_rows (exporting n table.now bytes.now rows.old nodes.old) }
 {
     let made = export_coded(n, table, bytes, rows.len(), nodes);
     rows::store_rows(made.at, made.count, rows);
@@ -369,7 +369,7 @@ fn code(reply: Reply) -> u64
 
 // The code of counts, each by its lowest 16 bits.
 fn counts(nodes: u64, rows: u64) -> u64
-    ensures { result ≡ countsCode nodes rows }
+    ensures { result ≡ counts_code nodes rows }
 {
     17179869184 + 65536 * (nodes % 65536) + rows % 65536
 }
@@ -378,14 +378,14 @@ fn counts(nodes: u64, rows: u64) -> u64
 fn refusal(number: u64, side: u64) -> u64
     requires number_bound { number < 256 }
     requires side_bound { side < 256 }
-    ensures { result ≡ refusalCode number side }
+    ensures { result ≡ refusal_code number side }
 {
     4294967296 + 256 * side + number
 }
 
 // The number of a side: 1 for the first graph, 2 for the second.
 fn side_number(side: Side) -> u64
-    ensures is { result ≡ sideNumber side }
+    ensures is { result ≡ side_number side }
     ensures small { result < 256 }
 {
     match side {

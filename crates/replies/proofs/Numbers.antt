@@ -26,20 +26,20 @@ faults : List GraphFault
 faults = Malformed ∷ OutOfRange ∷ Cyclic ∷ Unreached ∷ []
 
 -- The fault of a graph with a number from 4 to 7, or 18.
-faultIn : ℕ → GraphFault
-faultIn number = cond (eqb number 18) Inappropriate (get_or faults (number - 4) Malformed)
+fault_in : ℕ → GraphFault
+fault_in number = cond (eqb number 18) Inappropriate (get_or faults (number - 4) Malformed)
 
 -- The reply that tells the answer.
-replyIn : Answer → Reply
-replyIn (answer.Length l) = Length l
-replyIn answer.Same = Same
-replyIn answer.Under = Under
-replyIn answer.Above = Above
-replyIn answer.Neither = Neither
-replyIn (answer.Counts nodes rows) = Counts nodes rows
-replyIn answer.End = End
-replyIn (answer.Refused number) = get_or refusals number Neither
-replyIn (answer.RefusedGraph number side) = Graph (faultIn number) side
+reply_in : Answer → Reply
+reply_in (answer.Length l) = Length l
+reply_in answer.Same = Same
+reply_in answer.Under = Under
+reply_in answer.Above = Above
+reply_in answer.Neither = Neither
+reply_in (answer.Counts nodes rows) = Counts nodes rows
+reply_in answer.End = End
+reply_in (answer.Refused number) = get_or refusals number Neither
+reply_in (answer.RefusedGraph number side) = Graph (fault_in number) side
 
 -- the number of a refusal, or 0
 abbrev pub number_in : Answer → ℕ
@@ -53,8 +53,8 @@ number_in answer.End = 0
 number_in (answer.Refused number) = number
 number_in (answer.RefusedGraph number side) = number
 
-tells : (r : Reply) → (replyIn (answer_of r) ≡ r) × (ltb (number_in (answer_of r)) 256 ≡ true)
-unfolding replyIn refusals faults faultIn
+tells : (r : Reply) → (reply_in (answer_of r) ≡ r) × (ltb (number_in (answer_of r)) 256 ≡ true)
+unfolding reply_in refusals faults fault_in
 tells (Length l) = (refl, refl)
 tells Same = (refl, refl)
 tells Under = (refl, refl)
@@ -89,7 +89,7 @@ tells NotListed = (refl, refl)
 
 -- Different replies tell different answers.
 pub answer-injective : (r q : Reply) → answer_of r ≡ answer_of q → r ≡ q
-answer-injective r q e = sym (tells r).0 ∙ ap replyIn e ∙ (tells q).0
+answer-injective r q e = sym (tells r).0 ∙ ap reply_in e ∙ (tells q).0
 
 pub number_small : (r : Reply) {k : Answer} → answer_of r ≡ k → number_in k < 256
 number_small r e = subst (λ (k : Answer). number_in k < 256) e (ltb-true (number_in (answer_of r)) 256 (tells r).1)

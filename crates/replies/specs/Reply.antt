@@ -1,11 +1,11 @@
 -- Replies: the number that documents 01 ("Returned by a call") and 02 give to each refusal, and a reply with the output beside it.
 use Rattle.std.specs.Prelude.{◌≡◌, List, ℕ, ◌≤◌}
 use Rattle.std.proofs.Math.Option.{Option, none, some}
-use Rattle.acceptance.specs.Reply.{tableNumber}
+use Rattle.acceptance.specs.Reply.{table_number}
 use Rattle.encode.specs.declared.Written.{Written}
 use Rattle.encode.specs.declared.Written.TheVariants as written
 use Rattle.encode.specs.Encode.{Outcome}
-use Rattle.record.specs.Read.{graphNumber}
+use Rattle.record.specs.Read.{graph_number}
 use Rattle.replies.specs.declared.answers.Answer.{Answer}
 use Rattle.replies.specs.declared.answers.Answer.TheVariants as answer
 use Rattle.replies.specs.declared.Reply.{Reply}
@@ -20,8 +20,8 @@ answer_of Above = answer.Above
 answer_of Neither = answer.Neither
 answer_of (Counts nodes rows) = answer.Counts nodes rows
 answer_of End = answer.End
-answer_of (Table fault) = answer.Refused (tableNumber fault)
-answer_of (Graph fault side) = answer.RefusedGraph (graphNumber fault) side
+answer_of (Table fault) = answer.Refused (table_number fault)
+answer_of (Graph fault side) = answer.RefusedGraph (graph_number fault) side
 answer_of NoRoom = answer.Refused 8
 answer_of Cycle = answer.Refused 9
 answer_of Clash = answer.Refused 10
@@ -40,36 +40,36 @@ answer_of FeatureCount = answer.Refused 23
 answer_of NotListed = answer.Refused 24
 
 -- The number in an answer that is a refusal.
-abbrev pub refusalIn : Answer → Option ℕ
-refusalIn (answer.Length l) = none
-refusalIn answer.Same = none
-refusalIn answer.Under = none
-refusalIn answer.Above = none
-refusalIn answer.Neither = none
-refusalIn (answer.Counts nodes rows) = none
-refusalIn answer.End = none
-refusalIn (answer.Refused number) = some number
-refusalIn (answer.RefusedGraph number side) = some number
+abbrev pub refusal_in : Answer → Option ℕ
+refusal_in (answer.Length l) = none
+refusal_in answer.Same = none
+refusal_in answer.Under = none
+refusal_in answer.Above = none
+refusal_in answer.Neither = none
+refusal_in (answer.Counts nodes rows) = none
+refusal_in answer.End = none
+refusal_in (answer.Refused number) = some number
+refusal_in (answer.RefusedGraph number side) = some number
 
 -- the number of a refusal
 abbrev pub refusal : Reply → Option ℕ
-refusal reply = refusalIn (answer_of reply)
+refusal reply = refusal_in (answer_of reply)
 
 -- The length in an answer that has one.
-abbrev pub lengthIn : Answer → Option ℕ
-lengthIn (answer.Length l) = some l
-lengthIn answer.Same = none
-lengthIn answer.Under = none
-lengthIn answer.Above = none
-lengthIn answer.Neither = none
-lengthIn (answer.Counts nodes rows) = none
-lengthIn answer.End = none
-lengthIn (answer.Refused number) = none
-lengthIn (answer.RefusedGraph number side) = none
+abbrev pub length_in : Answer → Option ℕ
+length_in (answer.Length l) = some l
+length_in answer.Same = none
+length_in answer.Under = none
+length_in answer.Above = none
+length_in answer.Neither = none
+length_in (answer.Counts nodes rows) = none
+length_in answer.End = none
+length_in (answer.Refused number) = none
+length_in (answer.RefusedGraph number side) = none
 
 -- The record's length, where a reply tells one.
 abbrev pub length_of : Reply → Option ℕ
-length_of reply = lengthIn (answer_of reply)
+length_of reply = length_in (answer_of reply)
 
 -- A length that the reply tells is at most `most`.
 abbrev pub Bounded : Reply → ℕ → Type 0
@@ -89,14 +89,14 @@ abbrev pub resulting : Reply → List ℕ → Result
 resulting r out = record { reply = r; output = out }
 
 -- The reply that tells the answer of writing.
-abbrev pub replyOf : Written → Reply
-replyOf (written.Length l) = Length l
-replyOf written.TooLarge = TooLarge
-replyOf written.NoRoom = NoRoom
+abbrev pub reply_of : Written → Reply
+reply_of (written.Length l) = Length l
+reply_of written.TooLarge = TooLarge
+reply_of written.NoRoom = NoRoom
 
 -- The result of a call that ends in writing.
 abbrev pub result_of : Outcome → Result
-result_of o = resulting (replyOf o.answer) o.output
+result_of o = resulting (reply_of o.answer) o.output
 
 -- a refusal leaves the output as it was
 abbrev pub refusing : Reply → List ℕ → Result

@@ -1,8 +1,8 @@
 // What each reply tells, with the numbers that documents 01 ("Returned by a call") and 02 give to refusals.
 
 ghost use Rattle.std.specs.Prelude.{◌≡◌};
-ghost use Rattle.acceptance.specs.Reply.{tableNumber};
-ghost use Rattle.record.specs.Read.{graphNumber};
+ghost use Rattle.acceptance.specs.Reply.{table_number};
+ghost use Rattle.record.specs.Read.{graph_number};
 ghost use Rattle.replies.specs.Reply.{answer_of};
 
 use crate::{Reply, Side};
@@ -58,7 +58,7 @@ pub fn answer_of(reply: Reply) -> Answer
 
 // The number of a table's refusal.
 fn table_number(fault: TableFault) -> usize
-    ensures { result ≡ tableNumber fault }
+    ensures { result ≡ table_number fault }
 {
     match fault {
         TableFault::Size => 1,
@@ -69,7 +69,7 @@ fn table_number(fault: TableFault) -> usize
 
 // The number of a graph's refusal.
 fn graph_number(fault: GraphFault) -> usize
-    ensures { result ≡ graphNumber fault }
+    ensures { result ≡ graph_number fault }
 {
     match fault {
         GraphFault::Malformed => 4,

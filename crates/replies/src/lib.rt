@@ -2,7 +2,7 @@
 // faults of tables and graphs, and no call.
 
 ghost use Rattle.std.specs.Prelude.{◌≡◌};
-ghost use Rattle.replies.specs.Reply.{replyOf};
+ghost use Rattle.replies.specs.Reply.{reply_of};
 
 use acceptance::TableFault;
 use encode::Written;
@@ -50,7 +50,7 @@ pub enum Reply {
 
 // The reply that tells the answer of writing.
 pub fn reply_of(written: Written) -> Reply
-    ensures { result ≡ replyOf written }
+    ensures { result ≡ reply_of written }
 {
     match written {
         Written::Length(length) => Reply::Length(length),

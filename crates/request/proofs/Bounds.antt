@@ -10,21 +10,21 @@ use borrow.Author.Tests.{leb-true}
 use lib.Dec.{eqb, leb}
 use lib.ListN.{length, drop, replicate, length-append, length-replicate, length-take}
 use Rattle.graphs.specs.Rows.{Row, from}
-use Rattle.graphs.specs.Number.{Canonical, canonical, manyNodes, manyLinks, written}
+use Rattle.graphs.specs.Number.{Canonical, canonical, many_nodes, many_links, written}
 use Rattle.graphs.specs.Order.{subsumes}
-use Rattle.graphs.specs.Difference.{byNumber}
+use Rattle.graphs.specs.Difference.{by_number}
 use Rattle.graphs.specs.Generalize.{generalization}
 use Rattle.graphs.specs.Unify.{Unified, cycle, clash, unified, unification}
-use Rattle.graphs.specs.OfRows.{same_pair, sameEither}
+use Rattle.graphs.specs.OfRows.{same_pair, same_either}
 use Rattle.graphs.proofs.Walk.{none-some}
 use Rattle.lattice.specs.Label.{Label}
 use Rattle.acceptance.specs.declared.Opened.{Opened}
 use Rattle.acceptance.specs.declared.Opened.TheVariants as opened
 use Rattle.acceptance.specs.Reply as table
-use Rattle.lattice.specs.Labels.{tableLabels}
+use Rattle.lattice.specs.Labels.{table_labels}
 use Rattle.record.specs.Read as graph
 use Rattle.encoder.specs.Encode.{encoded}
-use Rattle.encode.specs.Encode.{fitted, writtenOut}
+use Rattle.encode.specs.Encode.{fitted, written_out}
 use Rattle.encode.specs.declared.Written.TheVariants as outcome
 use Rattle.replies.specs.declared.Side.{Side}
 use Rattle.replies.specs.declared.Side.TheVariants.{First, Second}
@@ -33,19 +33,19 @@ use Rattle.replies.specs.declared.answers.Answer.TheVariants as answer
 use Rattle.replies.specs.declared.Reply.{Reply}
 use Rattle.replies.specs.declared.Reply.TheVariants.{Length, Table, Graph, NoRoom, Cycle, Clash, TooLarge, NotBelow, NoWantedType}
 use Rattle.replies.specs.Reply.{Result, Bounded, answer_of, refusal, refusing, result_of}
-use Rattle.subsume.specs.Promise.{rowsBelow}
+use Rattle.subsume.specs.Promise.{rows_below}
 use Rattle.calls.specs.Calls.{checked, generalizing, ordering, unifying, differing}
-use Rattle.pairs.specs.Pair.{readBoth}
+use Rattle.pairs.specs.Pair.{read_both}
 use Rattle.engine.specs.Generalizing.{generalized}
 use Rattle.orders.specs.Ordering.{compared, ordered}
-use Rattle.engine.specs.Unifying.{combined, unifiedRows}
-use Rattle.difference.specs.Difference.{allWanted, differenceRows, differed, numbered, differedRows}
+use Rattle.engine.specs.Unifying.{combined, unified_rows}
+use Rattle.difference.specs.Difference.{all_wanted, difference_rows, differed, numbered, differed_rows}
 use Rattle.replies.proofs.Numbers.{number_in, number_small, answer-bounded}
 use Rattle.request.specs.declared.parse.Operation.{Operation}
 use Rattle.request.specs.declared.parse.Operation.TheVariants.{Generalize, Unify, Difference, Order}
 use Rattle.request.specs.Request.{Request}
-use Rattle.request.specs.Line.{answered, answering, answerText, countsText, refusedText, replyText, sideText}
-use Rattle.request.specs.Words.{wordsFor}
+use Rattle.request.specs.Line.{answered, answering, answer_text, counts_text, refused_text, reply_text, side_text}
+use Rattle.request.specs.Words.{words_for}
 use Rattle.text.proofs.Texts.{decimal-short, length-hexadecimal}
 
 -- A reply's length fits in the output.
@@ -62,15 +62,15 @@ module _ {X : Type 0} (refuse : Reply → X) (good : X → Type 0) (refused-good
     checked-good opened.Accepted next h = h
 
     both-good : (x y : graph.Reading) (next : List (Row Label) → List (Row Label) → X) → ((g h : List (Row Label)) → good (next g h)) →
-        good (readBoth refuse x y next)
+        good (read_both refuse x y next)
     both-good (graph.refused fault) y next h = refused-good (Graph fault First) (refused-bounded (Graph fault First) _ refl)
     both-good (graph.accepted rows) (graph.refused fault) next h = refused-good (Graph fault Second) (refused-bounded (Graph fault Second) _ refl)
     both-good (graph.accepted rows) (graph.accepted others) next h = h rows others
 
     call-good : (n : ℕ) (t a b : List ℕ) (next : List (Row Label) → List (Row Label) → X) → ((g h : List (Row Label)) → good (next g h)) →
-        good (checked refuse (table.opened n t) (readBoth refuse (graph.reading n a) (graph.reading n b) next))
+        good (checked refuse (table.opened n t) (read_both refuse (graph.reading n a) (graph.reading n b) next))
     call-good n t a b next h =
-        checked-good (table.opened n t) (readBoth refuse (graph.reading n a) (graph.reading n b) next)
+        checked-good (table.opened n t) (read_both refuse (graph.reading n a) (graph.reading n b) next)
         (both-good (graph.reading n a) (graph.reading n b) next h)
 
 fitted-bounded : (bytes out : List ℕ) → Bounded (result_of (fitted bytes out)).reply (length out)
@@ -84,10 +84,10 @@ fitted-bounded bytes out = go (leb (length bytes) (length out)) refl
     go true h = λ l e. let same : length bytes ≡ l = cc in omega (arith, leb-true (length bytes) (length out) h)
     go false h = refused-bounded NoRoom 8 refl (length out)
 
-written-bounded : (c : Canonical Label) (out : List ℕ) → Bounded (result_of (writtenOut c out)).reply (length out)
-unfolding writtenOut
-written-bounded manyNodes out = refused-bounded TooLarge 11 refl (length out)
-written-bounded manyLinks out = refused-bounded TooLarge 11 refl (length out)
+written-bounded : (c : Canonical Label) (out : List ℕ) → Bounded (result_of (written_out c out)).reply (length out)
+unfolding written_out
+written-bounded many_nodes out = refused-bounded TooLarge 11 refl (length out)
+written-bounded many_links out = refused-bounded TooLarge 11 refl (length out)
 written-bounded (written rows) out = fitted-bounded (encoded rows) out
 
 cond-bounded : (b : Bool) (x y : Result) (most : ℕ) → Bounded x.reply most → Bounded y.reply most → Bounded (cond b x y).reply most
@@ -97,7 +97,7 @@ cond-bounded false x y most h k = k
 combined-bounded : (u : Unified Label (ℕ ⊎ ℕ)) (out : List ℕ) → Bounded (combined u out).reply (length out)
 combined-bounded cycle out = refused-bounded Cycle 9 refl (length out)
 combined-bounded clash out = refused-bounded Clash 10 refl (length out)
-combined-bounded (unified u) out = written-bounded (canonical sameEither u) out
+combined-bounded (unified u) out = written-bounded (canonical same_either u) out
 
 compared-bounded : (most : ℕ) (x y : Bool) → Bounded (compared x y) most
 compared-bounded most true true l e = let z : ◌≡◌ {A = ℕ} 0 1 = cc in absurd (omega arith)
@@ -109,35 +109,35 @@ module _ (n : ℕ) (t a b : List ℕ) where
   -- The bound for a call that writes a record.
   writing-bounded : (out : List ℕ) (next : List (Row Label) → List (Row Label) → Result) →
       ((g h : List (Row Label)) → Bounded (next g h).reply (length out)) →
-      Bounded (checked (λ r. refusing r out) (table.opened n t) (readBoth (λ r. refusing r out) (graph.reading n a) (graph.reading n b) next)).reply (length out)
+      Bounded (checked (λ r. refusing r out) (table.opened n t) (read_both (λ r. refusing r out) (graph.reading n a) (graph.reading n b) next)).reply (length out)
   writing-bounded out = call-good (λ r. refusing r out) (λ (x : Result). Bounded x.reply (length out)) (λ r h. h (length out)) n t a b
 
   generalizing-bounded : (out : List ℕ) → Bounded (generalizing n t a b out).reply (length out)
   unfolding generalizing generalized
   generalizing-bounded out = writing-bounded out (generalized n t out) λ g h.
-      written-bounded (canonical same_pair (generalization (tableLabels n t) (graph.graphOfRows g) (graph.graphOfRows h))) out
+      written-bounded (canonical same_pair (generalization (table_labels n t) (graph.graph_of_rows g) (graph.graph_of_rows h))) out
 
   unifying-bounded : (out : List ℕ) → Bounded (unifying n t a b out).reply (length out)
-  unfolding unifying unifiedRows
-  unifying-bounded out = writing-bounded out (unifiedRows n t out) λ g h.
+  unfolding unifying unified_rows
+  unifying-bounded out = writing-bounded out (unified_rows n t out) λ g h.
       combined-bounded
-      (unification (tableLabels n t) eqb eqb (graph.graphOfRows g) (from 0 (length g)) (graph.graphOfRows h) (from 0 (length h))) out
+      (unification (table_labels n t) eqb eqb (graph.graph_of_rows g) (from 0 (length g)) (graph.graph_of_rows h) (from 0 (length h))) out
 
   differing-bounded : (out : List ℕ) → Bounded (differing n t a b out).reply (length out)
-  unfolding differing differedRows differed
-  differing-bounded out = writing-bounded out (differedRows byNumber n t out) λ g s.
-      let s = numbered (canonical eqb (graph.graphOfRows s)) in
-      cond-bounded (subsumes (tableLabels n t) eqb eqb (graph.graphOfRows s) (graph.graphOfRows g) (length g))
-      (cond (allWanted n t s g) (result_of (writtenOut (canonical eqb (differenceRows byNumber n t g s)) out)) (refusing NoWantedType out))
+  unfolding differing differed_rows differed
+  differing-bounded out = writing-bounded out (differed_rows by_number n t out) λ g s.
+      let s = numbered (canonical eqb (graph.graph_of_rows s)) in
+      cond-bounded (subsumes (table_labels n t) eqb eqb (graph.graph_of_rows s) (graph.graph_of_rows g) (length g))
+      (cond (all_wanted n t s g) (result_of (written_out (canonical eqb (difference_rows by_number n t g s)) out)) (refusing NoWantedType out))
       (refusing NotBelow out) (length out)
-      (cond-bounded (allWanted n t s g) (result_of (writtenOut (canonical eqb (differenceRows byNumber n t g s)) out)) (refusing NoWantedType out)
-      (length out) (written-bounded (canonical eqb (differenceRows byNumber n t g s)) out) (refused-bounded NoWantedType 13 refl (length out)))
+      (cond-bounded (all_wanted n t s g) (result_of (written_out (canonical eqb (difference_rows by_number n t g s)) out)) (refusing NoWantedType out)
+      (length out) (written-bounded (canonical eqb (difference_rows by_number n t g s)) out) (refused-bounded NoWantedType 13 refl (length out)))
       (refused-bounded NotBelow 12 refl (length out))
 
   ordering-bounded : (most : ℕ) → Bounded (ordering n t a b) most
   unfolding ordering ordered
   ordering-bounded most = call-good (λ r. r) (λ (r : Reply). Bounded r most) (λ r h. h most) n t a b (ordered n t) λ s g.
-      compared-bounded most (rowsBelow n t s g) (rowsBelow n t g s)
+      compared-bounded most (rows_below n t s g) (rows_below n t g s)
 
   pub answering-bounded : (operation : Operation) (out : List ℕ) → Bounded (answering operation n t a b out).reply (length out)
   answering-bounded Generalize out = generalizing-bounded out
@@ -152,19 +152,19 @@ answered-bounded q l e =
 
 -- Every line is short.
 
-side-short : (which : Side) → length (sideText which) ≤ 7
+side-short : (which : Side) → length (side_text which) ≤ 7
 side-short First = omega arith
 side-short Second = omega arith
 
 -- the text of counts has at most sixteen bytes
-counts-short : (nodes rows : ℕ) → length (countsText nodes rows) ≤ 16
+counts-short : (nodes rows : ℕ) → length (counts_text nodes rows) ≤ 16
 counts-short nodes rows = simp length-append (omega (arith, decimal-short (nodes % 10000) (omega arith), decimal-short (rows % 10000) (omega arith)))
 
 -- the text of a refusal has at most twelve bytes
-pub refused-short : (number : ℕ) → number < 10000 → length (refusedText number) ≤ 12
+pub refused-short : (number : ℕ) → number < 10000 → length (refused_text number) ≤ 12
 refused-short number h = omega (arith, decimal-short number h)
 
-answer-short : (k : Answer) (out : List ℕ) → ((l : ℕ) → k ≡ answer.Length l → l ≤ 4854) → number_in k < 256 → length (answerText k out) ≤ 9716
+answer-short : (k : Answer) (out : List ℕ) → ((l : ℕ) → k ≡ answer.Length l → l ≤ 4854) → number_in k < 256 → length (answer_text k out) ≤ 9716
 answer-short (answer.Length l) out h small =
     simp (length-append, length-hexadecimal, length-take) (omega (arith, h l refl, decimal-short l (omega (arith, h l refl))))
 answer-short answer.Same out h small = omega arith
@@ -177,14 +177,14 @@ answer-short (answer.Refused number) out h small = omega (arith, refused-short n
 answer-short (answer.RefusedGraph number which) out h small =
     omega (
       arith,
-      length-append (refusedText number) (sideText which),
+      length-append (refused_text number) (side_text which),
       refused-short number (omega arith),
       side-short which,
     )
 
-reply-short : (reply : Reply) (out : List ℕ) → Bounded reply 4854 → length (replyText reply out) ≤ 9716
+reply-short : (reply : Reply) (out : List ℕ) → Bounded reply 4854 → length (reply_text reply out) ≤ 9716
 reply-short reply out h = answer-short (answer_of reply) out (answer-bounded reply h) (number_small reply refl)
 
-pub words-short : (request : Option Request) → length (wordsFor request) ≤ 9716
+pub words-short : (request : Option Request) → length (words_for request) ≤ 9716
 words-short none = omega arith
 words-short (some q) = reply-short (answered q).reply (answered q).output (answered-bounded q)

@@ -16,25 +16,25 @@ use Rattle.request.specs.declared.parse.Parsed.{Parsed}
 use Rattle.request.specs.declared.parse.Parsed.TheVariants.{Asked, Bad}
 use Rattle.request.specs.declared.parse.Located.{Located}
 use Rattle.request.specs.declared.parse.Located.TheVariants as located
-use Rattle.request.specs.Request.{Request, operationOf, takeBytes, takeRecord, atEnd, asked_of, requested}
-use Rattle.request.specs.Parse.{AllInside, Inside, Parses, Takes, between, recordAt}
+use Rattle.request.specs.Request.{Request, operation_of, take_bytes, take_record, at_end, asked_of, requested}
+use Rattle.request.specs.Parse.{AllInside, Inside, Parses, Takes, between, record_at}
 use Rattle.text.proofs.Texts.{word_more}
 
 -- Runs of bytes.
 
-bytes-short : (k : ℕ) (bytes : List ℕ) → length bytes < k → takeBytes k bytes ≡ none
-unfolding takeBytes
+bytes-short : (k : ℕ) (bytes : List ℕ) → length bytes < k → take_bytes k bytes ≡ none
+unfolding take_bytes
 bytes-short k bytes h =
     ap (λ b. cond b (some (take k bytes, drop k bytes)) none) (lt-leb k (length bytes) h)
 
-bytes-there : (k : ℕ) (bytes : List ℕ) → k ≤ length bytes → takeBytes k bytes ≡ some (take k bytes, drop k bytes)
-unfolding takeBytes
+bytes-there : (k : ℕ) (bytes : List ℕ) → k ≤ length bytes → take_bytes k bytes ≡ some (take k bytes, drop k bytes)
+unfolding take_bytes
 bytes-there k bytes h =
     ap (λ b. cond b (some (take k bytes, drop k bytes)) none) (le-leb k (length bytes) h)
 
 -- The bytes from one place to another.
 part-there : (input : List ℕ) (start k : ℕ) → start + k ≤ length input →
-    takeBytes k (drop start input) ≡ some (between input (record { start = start; end = start + k }), drop (start + k) input)
+    take_bytes k (drop start input) ≡ some (between input (record { start = start; end = start + k }), drop (start + k) input)
 part-there input start k h =
     let size : start + k - start ≡ k = omega arith in
     bytes-there k (drop start input) (simp length-drop (omega arith))
@@ -42,8 +42,8 @@ part-there input start k h =
 
 -- Records.
 
-record-none : (bytes : List ℕ) → length bytes < 2 → takeRecord bytes ≡ none
-unfolding takeRecord
+record-none : (bytes : List ℕ) → length bytes < 2 → take_record bytes ≡ none
+unfolding take_record
 record-none [] h = refl
 record-none (low ∷ []) h = refl
 record-none (low ∷ high ∷ rest) h = absurd (omega arith)
@@ -52,29 +52,29 @@ pub takes_none : {read : Option (List ℕ × List ℕ)} {input : List ℕ} → r
 takes_none e = record { read_is = e; inside = λ part d. let z : ◌≡◌ {A = ℕ} 0 1 = cc in absurd (omega arith) }
 
 module _ (input : List ℕ) (at : ℕ) where
-  pub record-early : length input - at < 2 → takeRecord (drop at input) ≡ none
+  pub record-early : length input - at < 2 → take_record (drop at input) ≡ none
   record-early h = record-none (drop at input) (simp length-drop (omega arith))
 
   module _ (there : 2 ≤ length input - at) (size : ℕ) (is : size ≡ get_or input at 0 + 256 * get_or input (at + 1) 0) where
     -- a record whose length is there
-    record-after : takeRecord (drop at input) ≡ cond (leb size 8192) (takeBytes size (drop (at + 2) input)) none
-    unfolding takeRecord
+    record-after : take_record (drop at input) ≡ cond (leb size 8192) (take_bytes size (drop (at + 2) input)) none
+    unfolding take_record
     record-after =
         let two : at + 1 + 1 ≡ at + 2 = omega arith in
-        ap takeRecord (word_more input at (omega arith) ∙ ap (λ (l : List ℕ). get_or input at 0 ∷ l) (word_more input (at + 1) (omega arith)))
-        ∙ ap₂ (λ (n m : ℕ). cond (leb n 8192) (takeBytes n (drop m input)) none) (sym is) two
+        ap take_record (word_more input at (omega arith) ∙ ap (λ (l : List ℕ). get_or input at 0 ∷ l) (word_more input (at + 1) (omega arith)))
+        ∙ ap₂ (λ (n m : ℕ). cond (leb n 8192) (take_bytes n (drop m input)) none) (sym is) two
 
-    pub record-long : 8192 < size → takeRecord (drop at input) ≡ none
-    record-long h = record-after ∙ ap (λ b. cond b (takeBytes size (drop (at + 2) input)) none) (lt-leb size 8192 h)
+    pub record-long : 8192 < size → take_record (drop at input) ≡ none
+    record-long h = record-after ∙ ap (λ b. cond b (take_bytes size (drop (at + 2) input)) none) (lt-leb size 8192 h)
 
-    record-bytes : size ≤ 8192 → takeRecord (drop at input) ≡ takeBytes size (drop (at + 2) input)
-    record-bytes h = record-after ∙ ap (λ b. cond b (takeBytes size (drop (at + 2) input)) none) (le-leb size 8192 h)
+    record-bytes : size ≤ 8192 → take_record (drop at input) ≡ take_bytes size (drop (at + 2) input)
+    record-bytes h = record-after ∙ ap (λ b. cond b (take_bytes size (drop (at + 2) input)) none) (le-leb size 8192 h)
 
-    pub record-cut : size ≤ 8192 → length input - (at + 2) < size → takeRecord (drop at input) ≡ none
+    pub record-cut : size ≤ 8192 → length input - (at + 2) < size → take_record (drop at input) ≡ none
     record-cut h early = record-bytes h ∙ bytes-short size (drop (at + 2) input) (simp length-drop (omega arith))
 
     pub record-there : size ≤ 8192 → size ≤ length input - (at + 2) →
-        Takes (takeRecord (drop at input)) input (located.At (record { start = at + 2; end = at + 2 + size }))
+        Takes (take_record (drop at input)) input (located.At (record { start = at + 2; end = at + 2 + size }))
     record-there h enough = record {
       read_is = record-bytes h ∙ part-there input (at + 2) size (omega arith);
       inside = λ part e.
@@ -88,20 +88,20 @@ pub parses-none : {read : Option Request} {input : List ℕ} → read ≡ none �
 parses-none e = record { read_is = e; inside = λ operation parts d. let z : ◌≡◌ {A = ℕ} 0 1 = cc in absurd (omega arith) }
 
 -- what follows a part
-abbrev afterSecond : Operation → ℕ → List ℕ → List ℕ → List ℕ × List ℕ → Option Request
-afterSecond operation n table first second =
-    atEnd second.1 (record { operation = operation; n = n; table = table; first = first; second = second.0 })
+abbrev after_second : Operation → ℕ → List ℕ → List ℕ → List ℕ × List ℕ → Option Request
+after_second operation n table first second =
+    at_end second.1 (record { operation = operation; n = n; table = table; first = first; second = second.0 })
 
-abbrev afterFirst : Operation → ℕ → List ℕ → List ℕ × List ℕ → Option Request
-afterFirst operation n table first = bind (takeRecord first.1) (afterSecond operation n table first.0)
+abbrev after_first : Operation → ℕ → List ℕ → List ℕ × List ℕ → Option Request
+after_first operation n table first = bind (take_record first.1) (after_second operation n table first.0)
 
-abbrev afterTable : Operation → ℕ → List ℕ × List ℕ → Option Request
-afterTable operation n table = bind (takeRecord table.1) (afterFirst operation n table.0)
+abbrev after_table : Operation → ℕ → List ℕ × List ℕ → Option Request
+after_table operation n table = bind (take_record table.1) (after_first operation n table.0)
 
-pub end-left : (rest : List ℕ) (request : Request) → (length rest ≡ 0 → ⊥) → atEnd rest request ≡ none
+pub end-left : (rest : List ℕ) (request : Request) → (length rest ≡ 0 → ⊥) → at_end rest request ≡ none
 end-left rest request h = ap (λ b. cond b (some request) none) (ne_eqb (length rest) 0 h)
 
-end-there : (rest : List ℕ) (request : Request) → length rest ≡ 0 → atEnd rest request ≡ some request
+end-there : (rest : List ℕ) (request : Request) → length rest ≡ 0 → at_end rest request ≡ some request
 end-there rest request h = ap (λ b. cond b (some request) none) (eq-eqb (length rest) 0 h)
 
 -- where the table stands
@@ -109,7 +109,7 @@ abbrev table_of : List ℕ → Part
 table_of input = record { start = 2; end = 2 + 8 * get_or input 1 0 }
 
 module _ (operation : Operation) (input : List ℕ) (some_bytes : 2 ≤ length input) where
-  asked-table : asked_of operation (drop 1 input) ≡ bind (takeBytes (8 * get_or input 1 0) (drop 2 input)) (afterTable operation (get_or input 1 0))
+  asked-table : asked_of operation (drop 1 input) ≡ bind (take_bytes (8 * get_or input 1 0) (drop 2 input)) (after_table operation (get_or input 1 0))
   unfolding asked_of
   asked-table = ap (asked_of operation) (word_more input 1 (omega arith))
 
@@ -117,46 +117,46 @@ module _ (operation : Operation) (input : List ℕ) (some_bytes : 2 ≤ length i
   unfolding bind
   table-short h =
       asked-table
-      ∙ ap (λ o. bind o (afterTable operation (get_or input 1 0)))
+      ∙ ap (λ o. bind o (after_table operation (get_or input 1 0)))
       (bytes-short (8 * get_or input 1 0) (drop 2 input) (simp length-drop (omega arith)))
 
   module _ (enough : 2 + 8 * get_or input 1 0 ≤ length input) where
     asked-first : asked_of operation (drop 1 input) ≡
-        bind (takeRecord (drop (table_of input).end input)) (afterFirst operation (get_or input 1 0) (between input (table_of input)))
+        bind (take_record (drop (table_of input).end input)) (after_first operation (get_or input 1 0) (between input (table_of input)))
     unfolding bind
     asked-first =
         asked-table
-        ∙ ap (λ o. bind o (afterTable operation (get_or input 1 0))) (part-there input 2 (8 * get_or input 1 0) enough)
+        ∙ ap (λ o. bind o (after_table operation (get_or input 1 0))) (part-there input 2 (8 * get_or input 1 0) enough)
 
-    module _ {read : Located} (takes : Takes (takeRecord (drop (table_of input).end input)) input read) where
+    module _ {read : Located} (takes : Takes (take_record (drop (table_of input).end input)) input read) where
       pub first-bad : read ≡ located.Bad → asked_of operation (drop 1 input) ≡ none
       unfolding bind
       first-bad e =
           asked-first
-          ∙ ap (λ o. bind o (afterFirst operation (get_or input 1 0) (between input (table_of input)))) (takes.read_is ∙ ap (recordAt input) e)
+          ∙ ap (λ o. bind o (after_first operation (get_or input 1 0) (between input (table_of input)))) (takes.read_is ∙ ap (record_at input) e)
 
-      module _ (first : Part) (first-is : read ≡ located.At first) {next : Located} (more : Takes (takeRecord (drop first.end input)) input next) where
+      module _ (first : Part) (first-is : read ≡ located.At first) {next : Located} (more : Takes (take_record (drop first.end input)) input next) where
         asked-second : asked_of operation (drop 1 input) ≡
-            bind (recordAt input next) (afterSecond operation (get_or input 1 0) (between input (table_of input)) (between input first))
+            bind (record_at input next) (after_second operation (get_or input 1 0) (between input (table_of input)) (between input first))
         unfolding bind
         asked-second =
             asked-first
-            ∙ ap (λ o. bind o (afterFirst operation (get_or input 1 0) (between input (table_of input)))) (takes.read_is ∙ ap (recordAt input) first-is)
-            ∙ ap (λ o. bind o (afterSecond operation (get_or input 1 0) (between input (table_of input)) (between input first))) more.read_is
+            ∙ ap (λ o. bind o (after_first operation (get_or input 1 0) (between input (table_of input)))) (takes.read_is ∙ ap (record_at input) first-is)
+            ∙ ap (λ o. bind o (after_second operation (get_or input 1 0) (between input (table_of input)) (between input first))) more.read_is
 
         pub second-bad : next ≡ located.Bad → asked_of operation (drop 1 input) ≡ none
         unfolding bind
         second-bad e =
             asked-second
-            ∙ ap (λ o. bind (recordAt input o) (afterSecond operation (get_or input 1 0) (between input (table_of input)) (between input first))) e
+            ∙ ap (λ o. bind (record_at input o) (after_second operation (get_or input 1 0) (between input (table_of input)) (between input first))) e
 
         module _ (second : Part) (second_is : next ≡ located.At second) where
           asked-end : asked_of operation (drop 1 input) ≡
-              afterSecond operation (get_or input 1 0) (between input (table_of input)) (between input first) (between input second, drop second.end input)
+              after_second operation (get_or input 1 0) (between input (table_of input)) (between input first) (between input second, drop second.end input)
           unfolding bind
           asked-end =
               asked-second
-              ∙ ap (λ o. bind (recordAt input o) (afterSecond operation (get_or input 1 0) (between input (table_of input)) (between input first)))
+              ∙ ap (λ o. bind (record_at input o) (after_second operation (get_or input 1 0) (between input (table_of input)) (between input first)))
               second_is
 
           pub bytes_left : (second.end ≡ length input → ⊥) → asked_of operation (drop 1 input) ≡ none
@@ -193,21 +193,21 @@ bind-none (some x) next h = h x refl
 pub input-short : (input : List ℕ) → length input < 2 → requested input ≡ none
 unfolding requested asked_of
 input-short [] h = refl
-input-short (o ∷ []) h = bind-none (operationOf o) _ λ operation e. refl
+input-short (o ∷ []) h = bind-none (operation_of o) _ λ operation e. refl
 input-short (o ∷ n ∷ rest) h = absurd (omega arith)
 
 module _ (input : List ℕ) (some_bytes : 2 ≤ length input) where
-  requested-is : (o : Option Operation) → operationOf (get_or input 0 0) ≡ o → requested input ≡ bind o λ operation. asked_of operation (drop 1 input)
+  requested-is : (o : Option Operation) → operation_of (get_or input 0 0) ≡ o → requested input ≡ bind o λ operation. asked_of operation (drop 1 input)
   unfolding requested
   requested-is o e =
       ap requested (word_more input 0 (omega arith)) ∙ ap (λ o. bind o λ operation. asked_of operation (drop 1 input)) e
 
-  pub parses-asked : (operation : Operation) {parsed : Parsed} → operationOf (get_or input 0 0) ≡ some operation →
+  pub parses-asked : (operation : Operation) {parsed : Parsed} → operation_of (get_or input 0 0) ≡ some operation →
       Parses (asked_of operation (drop 1 input)) input parsed → Parses (requested input) input parsed
   unfolding bind
   parses-asked operation {parsed} e p = subst (λ o. Parses o input parsed) (sym (requested-is (some operation) e)) p
 
-  pub parses-other : operationOf (get_or input 0 0) ≡ none → Parses (requested input) input Bad
+  pub parses-other : operation_of (get_or input 0 0) ≡ none → Parses (requested input) input Bad
   unfolding bind
   parses-other e = parses-none (requested-is none e)
 
@@ -218,13 +218,13 @@ byte_of Unify = 2
 byte_of Difference = 3
 byte_of Order = 4
 
-pub operation-byte : (o : ℕ) (operation : Operation) → o ≡ byte_of operation → operationOf o ≡ some operation
-unfolding operationOf
-operation-byte o Generalize e = ap operationOf e
-operation-byte o Unify e = ap operationOf e
-operation-byte o Difference e = ap operationOf e
-operation-byte o Order e = ap operationOf e
+pub operation-byte : (o : ℕ) (operation : Operation) → o ≡ byte_of operation → operation_of o ≡ some operation
+unfolding operation_of
+operation-byte o Generalize e = ap operation_of e
+operation-byte o Unify e = ap operation_of e
+operation-byte o Difference e = ap operation_of e
+operation-byte o Order e = ap operation_of e
 
-pub operation-none : (o : ℕ) → (o ≡ 1 → ⊥) → (o ≡ 2 → ⊥) → (o ≡ 3 → ⊥) → (o ≡ 4 → ⊥) → operationOf o ≡ none
-unfolding operationOf
+pub operation-none : (o : ℕ) → (o ≡ 1 → ⊥) → (o ≡ 2 → ⊥) → (o ≡ 3 → ⊥) → (o ≡ 4 → ⊥) → operation_of o ≡ none
+unfolding operation_of
 operation-none o a b c d = simp (ne_eqb o 1 a, ne_eqb o 2 b, ne_eqb o 3 c, ne_eqb o 4 d)

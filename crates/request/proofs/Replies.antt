@@ -15,22 +15,22 @@ use Rattle.request.specs.declared.Printed.{Printed}
 use Rattle.request.specs.declared.parse.Operation.{Operation}
 use Rattle.request.specs.declared.parse.Parts.{Parts}
 use Rattle.request.specs.Request.{Request, requested}
-use Rattle.request.specs.Parse.{between, requestAt}
+use Rattle.request.specs.Parse.{between, request_at}
 use Rattle.text.specs.Text.{Puts}
-use Rattle.request.specs.Line.{answered, answering, ended, answerText, line_for, line_of, printed, replyText, sideText, text_of}
-use Rattle.request.specs.Words.{wordsFor}
+use Rattle.request.specs.Line.{answered, answering, ended, answer_text, line_for, line_of, printed, reply_text, side_text, text_of}
+use Rattle.request.specs.Words.{words_for}
 use Rattle.text.proofs.Texts.{puts_then, puts-byte}
 use Rattle.request.proofs.Bounds.{words-short}
 
 -- the text of what an equal reply tells
 pub puts-answer : {k other : Answer} (output : List ℕ) {at next : ℕ} {old new : List ℕ} → k ≡ other →
-    Puts (answerText other output) at old next new → Puts (answerText k output) at old next new
-puts-answer output {at} {next} {old} {new} e p = subst (λ (k : Answer). Puts (answerText k output) at old next new) (sym e) p
+    Puts (answer_text other output) at old next new → Puts (answer_text k output) at old next new
+puts-answer output {at} {next} {old} {new} e p = subst (λ (k : Answer). Puts (answer_text k output) at old next new) (sym e) p
 
 -- the text of an equal side
 pub puts-side : {which s : Side} {at next : ℕ} {old new : List ℕ} → which ≡ s →
-    Puts (sideText s) at old next new → Puts (sideText which) at old next new
-puts-side {at = at} {next} {old} {new} e p = subst (λ (s : Side). Puts (sideText s) at old next new) (sym e) p
+    Puts (side_text s) at old next new → Puts (side_text which) at old next new
+puts-side {at = at} {next} {old} {new} e p = subst (λ (s : Side). Puts (side_text s) at old next new) (sym e) p
 
 -- Calls.
 
@@ -42,7 +42,7 @@ answers_by n t a b out e h = h ∙ ap (λ (o : Operation). answering o n t a b o
 -- the call on the parts of the input
 pub answered-is : (input : List ℕ) (operation : Operation) (parts : Parts) {t a b : List ℕ} →
     t ≡ between input parts.table → a ≡ between input parts.first → b ≡ between input parts.second →
-    answering operation parts.n t a b (replicate 4854 0) ≡ answered (requestAt input operation parts)
+    answering operation parts.n t a b (replicate 4854 0) ≡ answered (request_at input operation parts)
 unfolding answered
 answered-is input operation parts {t} {a} {b} et ea eb =
     ap (λ (x : List ℕ). answering operation parts.n x a b (replicate 4854 0)) et
@@ -50,27 +50,27 @@ answered-is input operation parts {t} {a} {b} et ea eb =
 
 -- the words of an equal result
 pub puts-result : {x y : Result} {r : Reply} {output : List ℕ} {at next : ℕ} {old new : List ℕ} → x ≡ y → resulting r output ≡ x →
-    Puts (replyText r output) at old next new → Puts (replyText y.reply y.output) at old next new
+    Puts (reply_text r output) at old next new → Puts (reply_text y.reply y.output) at old next new
 puts-result {at = at} {next} {old} {new} e results p =
-    subst (λ (x : Result). Puts (replyText x.reply x.output) at old next new) (results ∙ e) p
+    subst (λ (x : Result). Puts (reply_text x.reply x.output) at old next new) (results ∙ e) p
 
 -- the words of an equal request
 pub puts-words : {request q : Option Request} {at next : ℕ} {old new : List ℕ} → request ≡ q →
-    Puts (wordsFor q) at old next new → Puts (wordsFor request) at old next new
-puts-words {at = at} {next} {old} {new} e p = subst (λ (q : Option Request). Puts (wordsFor q) at old next new) (sym e) p
+    Puts (words_for q) at old next new → Puts (words_for request) at old next new
+puts-words {at = at} {next} {old} {new} e p = subst (λ (q : Option Request). Puts (words_for q) at old next new) (sym e) p
 
 -- The line.
 
-line-is : (request : Option Request) → line_for request ≡ ended (wordsFor request)
+line-is : (request : Option Request) → line_for request ≡ ended (words_for request)
 unfolding text_of
 line-is none = refl
 line-is (some q) = refl
 
-line-put : (input : List ℕ) {end : ℕ} {old part : List ℕ} → 9717 ≤ length old → Puts (wordsFor (requested input)) 0 old end part →
+line-put : (input : List ℕ) {end : ℕ} {old part : List ℕ} → 9717 ≤ length old → Puts (words_for (requested input)) 0 old end part →
     (end + 1 ≡ length (line_of input)) × (set part end 10 ≡ line_of input ++ drop (length (line_of input)) old)
 unfolding line_of
 line-put input {end} {old} {part} room p =
-    let words : List ℕ = wordsFor (requested input) in
+    let words : List ℕ = words_for (requested input) in
     let q : Puts (words ++ (10 ∷ [])) 0 old (end + 1) (set part end 10) = puts_then p (puts-byte end part 10) in
     let size : length (words ++ (10 ∷ [])) ≡ length words + 1 = length-append words (10 ∷ []) in
     let short : length words ≤ 9716 = words-short (requested input) in
@@ -84,7 +84,7 @@ line-put input {end} {old} {part} room p =
 abbrev held : List ℕ → ℕ → Printed
 held bytes count = record { bytes = bytes; count = count }
 
-pub line-printed : (input : List ℕ) {end : ℕ} {part : List ℕ} → Puts (wordsFor (requested input)) 0 (replicate 9717 0) end part →
+pub line-printed : (input : List ℕ) {end : ℕ} {part : List ℕ} → Puts (words_for (requested input)) 0 (replicate 9717 0) end part →
     held (set part end 10) (end + 1) ≡ printed (line_of input)
 line-printed input p =
     let h = line-put input (omega (arith, length-replicate {A = ℕ} 9717 0)) p in

@@ -11,14 +11,14 @@ use lib.Dec.{leb}
 use lib.ListN.{length, get_or, take, drop, length-drop}
 use lib.Seq.{get_or-take, length-take-le, take_all}
 use Rattle.graphs.proofs.Walk.{some-injective, none-some}
-use Rattle.request.specs.Request.{operationOf, takeBytes, takeRecord, asked_of, requested}
+use Rattle.request.specs.Request.{operation_of, take_bytes, take_record, asked_of, requested}
 use Rattle.request.specs.Line.{line_for, line_of}
 use Rattle.request.proofs.Parsing.{bind-none, end-left}
 
 -- The bytes that are taken, and those that are left.
 
-bytes_count : (k : ℕ) (bytes : List ℕ) (p : List ℕ × List ℕ) → takeBytes k bytes ≡ some p → length bytes ≡ k + length p.1
-unfolding takeBytes
+bytes_count : (k : ℕ) (bytes : List ℕ) (p : List ℕ × List ℕ) → take_bytes k bytes ≡ some p → length bytes ≡ k + length p.1
+unfolding take_bytes
 bytes_count k bytes p e = go (leb k (length bytes)) refl e
   where
     go : (b : Bool) → leb k (length bytes) ≡ b → cond b (some (take k bytes, drop k bytes)) none ≡ some p → length bytes ≡ k + length p.1
@@ -27,13 +27,13 @@ bytes_count k bytes p e = go (leb k (length bytes)) refl e
         omega (arith, leb-true k (length bytes) h, length-drop k bytes, ap (λ (x : List ℕ × List ℕ). length x.1) same)
     go false h q = absurd (none-some q)
 
-record-count : (bytes : List ℕ) (p : List ℕ × List ℕ) → takeRecord bytes ≡ some p → length bytes ≤ 8194 + length p.1
-unfolding takeRecord
+record-count : (bytes : List ℕ) (p : List ℕ × List ℕ) → take_record bytes ≡ some p → length bytes ≤ 8194 + length p.1
+unfolding take_record
 record-count [] p e = absurd (none-some e)
 record-count (low ∷ []) p e = absurd (none-some e)
 record-count (low ∷ high ∷ rest) p e = go (leb (low + 256 * high) 8192) refl e
   where
-    go : (b : Bool) → leb (low + 256 * high) 8192 ≡ b → cond b (takeBytes (low + 256 * high) rest) none ≡ some p →
+    go : (b : Bool) → leb (low + 256 * high) 8192 ≡ b → cond b (take_bytes (low + 256 * high) rest) none ≡ some p →
         suc (suc (length rest)) ≤ 8194 + length p.1
     go true h q = omega (arith, leb-true (low + 256 * high) 8192 h, bytes_count (low + 256 * high) rest p q)
     go false h q = absurd (none-some q)
@@ -42,12 +42,12 @@ record-count (low ∷ high ∷ rest) p e = go (leb (low + 256 * high) 8192) refl
 long-bad : (input : List ℕ) → get_or input 1 0 < 256 → 18430 < length input → requested input ≡ none
 unfolding requested asked_of
 long-bad [] small long = refl
-long-bad (o ∷ []) small long = bind-none (operationOf o) _ λ operation e. refl
+long-bad (o ∷ []) small long = bind-none (operation_of o) _ λ operation e. refl
 long-bad (o ∷ n ∷ rest) small long =
-    bind-none (operationOf o) _ λ operation e.
-    bind-none (takeBytes (8 * n) rest) _ λ table t.
-    bind-none (takeRecord table.1) _ λ first f.
-    bind-none (takeRecord first.1) _ λ second s.
+    bind-none (operation_of o) _ λ operation e.
+    bind-none (take_bytes (8 * n) rest) _ λ table t.
+    bind-none (take_record table.1) _ λ first f.
+    bind-none (take_record first.1) _ λ second s.
     end-left second.1 _ λ none_left.
     omega (
       arith,

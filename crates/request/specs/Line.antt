@@ -15,41 +15,41 @@ use Rattle.request.specs.Request.{Request, requested}
 use Rattle.text.specs.Text.{decimal, hexadecimal}
 
 -- `bad input`
-abbrev pub badInput : List ℕ
-badInput = 98 ∷ 97 ∷ 100 ∷ 32 ∷ 105 ∷ 110 ∷ 112 ∷ 117 ∷ 116 ∷ []
+abbrev pub bad_input : List ℕ
+bad_input = 98 ∷ 97 ∷ 100 ∷ 32 ∷ 105 ∷ 110 ∷ 112 ∷ 117 ∷ 116 ∷ []
 
 -- "`ok`, the length and the record in lower-case hexadecimal"
-abbrev pub okText : ℕ → List ℕ → List ℕ
-okText l bytes = (111 ∷ 107 ∷ 32 ∷ []) ++ decimal l ++ (32 ∷ []) ++ hexadecimal bytes
+abbrev pub ok_text : ℕ → List ℕ → List ℕ
+ok_text l bytes = (111 ∷ 107 ∷ 32 ∷ []) ++ decimal l ++ (32 ∷ []) ++ hexadecimal bytes
 
 -- `counts`, the nodes and the rows. Each count shows its last four digits; there are at most 255 nodes and 2,048 rows.
-abbrev pub countsText : ℕ → ℕ → List ℕ
-countsText nodes rows = (99 ∷ 111 ∷ 117 ∷ 110 ∷ 116 ∷ 115 ∷ 32 ∷ []) ++ decimal (nodes % 10000) ++ (32 ∷ []) ++ decimal (rows % 10000)
+abbrev pub counts_text : ℕ → ℕ → List ℕ
+counts_text nodes rows = (99 ∷ 111 ∷ 117 ∷ 110 ∷ 116 ∷ 115 ∷ 32 ∷ []) ++ decimal (nodes % 10000) ++ (32 ∷ []) ++ decimal (rows % 10000)
 
 -- "`refused` with the number"
-abbrev pub refusedText : ℕ → List ℕ
-refusedText number = (114 ∷ 101 ∷ 102 ∷ 117 ∷ 115 ∷ 101 ∷ 100 ∷ 32 ∷ []) ++ decimal number
+abbrev pub refused_text : ℕ → List ℕ
+refused_text number = (114 ∷ 101 ∷ 102 ∷ 117 ∷ 115 ∷ 101 ∷ 100 ∷ 32 ∷ []) ++ decimal number
 
 -- "`first` or `second`"
-abbrev pub sideText : Side → List ℕ
-sideText First = 32 ∷ 102 ∷ 105 ∷ 114 ∷ 115 ∷ 116 ∷ []
-sideText Second = 32 ∷ 115 ∷ 101 ∷ 99 ∷ 111 ∷ 110 ∷ 100 ∷ []
+abbrev pub side_text : Side → List ℕ
+side_text First = 32 ∷ 102 ∷ 105 ∷ 114 ∷ 115 ∷ 116 ∷ []
+side_text Second = 32 ∷ 115 ∷ 101 ∷ 99 ∷ 111 ∷ 110 ∷ 100 ∷ []
 
 -- The words of what a reply tells. The record is the first bytes of the output, and a refused graph is named: "for 4 to 7 `first` or `second`".
-abbrev pub answerText : Answer → List ℕ → List ℕ
-answerText (Length l) out = okText l (take l out)
-answerText Same out = 115 ∷ 97 ∷ 109 ∷ 101 ∷ []
-answerText Under out = 117 ∷ 110 ∷ 100 ∷ 101 ∷ 114 ∷ []
-answerText Above out = 97 ∷ 98 ∷ 111 ∷ 118 ∷ 101 ∷ []
-answerText Neither out = 110 ∷ 101 ∷ 105 ∷ 116 ∷ 104 ∷ 101 ∷ 114 ∷ []
-answerText (Counts nodes rows) out = countsText nodes rows
-answerText End out = 101 ∷ 110 ∷ 100 ∷ []
-answerText (Refused number) out = refusedText number
-answerText (RefusedGraph number which) out = refusedText number ++ sideText which
+abbrev pub answer_text : Answer → List ℕ → List ℕ
+answer_text (Length l) out = ok_text l (take l out)
+answer_text Same out = 115 ∷ 97 ∷ 109 ∷ 101 ∷ []
+answer_text Under out = 117 ∷ 110 ∷ 100 ∷ 101 ∷ 114 ∷ []
+answer_text Above out = 97 ∷ 98 ∷ 111 ∷ 118 ∷ 101 ∷ []
+answer_text Neither out = 110 ∷ 101 ∷ 105 ∷ 116 ∷ 104 ∷ 101 ∷ 114 ∷ []
+answer_text (Counts nodes rows) out = counts_text nodes rows
+answer_text End out = 101 ∷ 110 ∷ 100 ∷ []
+answer_text (Refused number) out = refused_text number
+answer_text (RefusedGraph number which) out = refused_text number ++ side_text which
 
 -- the words of a reply
-abbrev pub replyText : Reply → List ℕ → List ℕ
-replyText reply out = answerText (answer_of reply) out
+abbrev pub reply_text : Reply → List ℕ → List ℕ
+reply_text reply out = answer_text (answer_of reply) out
 
 -- "prints one line": the words and a line end
 abbrev pub ended : List ℕ → List ℕ
@@ -57,7 +57,7 @@ ended words = words ++ (10 ∷ [])
 
 -- the line of a result
 unfoldable pub text_of : Result → List ℕ
-text_of result = ended (replyText result.reply result.output)
+text_of result = ended (reply_text result.reply result.output)
 
 -- What the call that is asked for answers and leaves in the output.
 abbrev pub answering : Operation → ℕ → List ℕ → List ℕ → List ℕ → List ℕ → Result
@@ -72,7 +72,7 @@ answered q = answering q.operation q.n q.table q.first q.second (replicate 4854 
 
 -- "found before any other check, `bad input`"
 abbrev pub line_for : Option Request → List ℕ
-line_for none = ended badInput
+line_for none = ended bad_input
 line_for (some request) = text_of (answered request)
 
 -- A text as it is printed: its bytes, zeros behind them, and the number of its bytes.

@@ -20,18 +20,18 @@ pub record Inside (input : List ℕ) (part : Part) : Type 0 where
   pub inside : part.end ≤ length input
 
 -- a record of the input, and the bytes behind it
-abbrev pub recordAt : List ℕ → Located → Option (List ℕ × List ℕ)
-recordAt input located.Bad = none
-recordAt input (located.At part) = some (between input part, drop part.end input)
+abbrev pub record_at : List ℕ → Located → Option (List ℕ × List ℕ)
+record_at input located.Bad = none
+record_at input (located.At part) = some (between input part, drop part.end input)
 
 -- The answer of parsing one record: the record that was read stands in the input at the place answered.
 pub record Takes (read : Option (List ℕ × List ℕ)) (input : List ℕ) (answer : Located) : Type 0 where
-  pub read_is : read ≡ recordAt input answer
+  pub read_is : read ≡ record_at input answer
   pub inside : (part : Part) → answer ≡ located.At part → Inside input part
 
 -- the request whose parts stand in the input
-abbrev pub requestAt : List ℕ → Operation → Parts → Request
-requestAt input operation parts = record {
+abbrev pub request_at : List ℕ → Operation → Parts → Request
+request_at input operation parts = record {
   operation = operation;
   n = parts.n;
   table = between input parts.table;
@@ -40,9 +40,9 @@ requestAt input operation parts = record {
 }
 
 -- The request that parsing answers; none where the input is bad.
-abbrev pub requestIn : List ℕ → Parsed → Option Request
-requestIn input Bad = none
-requestIn input (Asked operation parts) = some (requestAt input operation parts)
+abbrev pub request_in : List ℕ → Parsed → Option Request
+request_in input Bad = none
+request_in input (Asked operation parts) = some (request_at input operation parts)
 
 -- Every part stands in the input.
 pub record AllInside (input : List ℕ) (parts : Parts) : Type 0 where
@@ -52,5 +52,5 @@ pub record AllInside (input : List ℕ) (parts : Parts) : Type 0 where
 
 -- The answer of parsing the input: it is the request that the input is, with all its parts inside.
 pub record Parses (read : Option Request) (input : List ℕ) (answer : Parsed) : Type 0 where
-  pub read_is : read ≡ requestIn input answer
+  pub read_is : read ≡ request_in input answer
   pub inside : (operation : Operation) (parts : Parts) → answer ≡ Asked operation parts → AllInside input parts

@@ -2,9 +2,9 @@
 use Rattle.std.specs.Prelude.{List, ℕ}
 use Rattle.std.proofs.Math.Option.{Option, none, some}
 use Rattle.request.specs.Request.{Request}
-use Rattle.request.specs.Line.{answered, badInput, replyText}
+use Rattle.request.specs.Line.{answered, bad_input, reply_text}
 
 -- A line without its line end.
-abbrev pub wordsFor : Option Request → List ℕ
-wordsFor none = badInput
-wordsFor (some request) = replyText (answered request).reply (answered request).output
+abbrev pub words_for : Option Request → List ℕ
+words_for none = bad_input
+words_for (some request) = reply_text (answered request).reply (answered request).output

@@ -7,10 +7,10 @@ ghost use Rattle.std.specs.Prelude.{◌≡◌, ◌≤◌, length};
 ghost use Rattle.std.proofs.Math.Option.{some};
 ghost use Rattle.replies.specs.Reply.{resulting};
 ghost use Rattle.request.specs.Request.{requested};
-ghost use Rattle.request.specs.Parse.{AllInside, requestAt};
+ghost use Rattle.request.specs.Parse.{AllInside, request_at};
 ghost use Rattle.text.specs.Text.{Puts};
 ghost use Rattle.request.specs.Line.{answering, line_of, printed};
-ghost use Rattle.request.specs.Words.{wordsFor};
+ghost use Rattle.request.specs.Words.{words_for};
 
 use parse::{Operation, Parsed, Parts};
 use replies::Reply;
@@ -45,7 +45,7 @@ fn answer(
 fn put_answer(operation: Operation, parts: Parts, input: &[u8], out: &mut [u8]) -> usize
     requires all_inside { AllInside input.now parts }
     requires in_bounds { 9716 ≤ length out.old }
-    ensures { Puts (wordsFor (some (requestAt input.now operation parts))) 0 out.old result out.new }
+    ensures { Puts (words_for (some (request_at input.now operation parts))) 0 out.old result out.new }
 {
     let n = parts.n;
     let table = parse::bytes_of(input, parts.table);
@@ -59,7 +59,7 @@ fn put_answer(operation: Operation, parts: Parts, input: &[u8], out: &mut [u8]) 
 // Puts the line without its line end.
 fn put_words(input: &[u8], out: &mut [u8]) -> usize
     requires { 9716 ≤ length out.old }
-    ensures { Puts (wordsFor (requested input.now)) 0 out.old result out.new }
+    ensures { Puts (words_for (requested input.now)) 0 out.old result out.new }
 {
     let parsed = parse::parse(input);
     match parsed {

@@ -1,7 +1,7 @@
 // Parses the input of `mapcalc`: finds where its parts stand, or answers that it is bad.
 
 ghost use Rattle.std.specs.Prelude.{◌≡◌, ◌≤◌, length, drop};
-ghost use Rattle.request.specs.Request.{asked_of, requested, takeRecord};
+ghost use Rattle.request.specs.Request.{asked_of, requested, take_record};
 ghost use Rattle.request.specs.Parse.{Inside, Parses, Takes, between};
 
 // What is asked for: the common part, the combination, the difference or the order.
@@ -46,7 +46,7 @@ pub enum Located {
 // The record at a place, after its length of 2 bytes.
 fn record_at(input: &[u8], at: usize) -> Located
     requires { at ≤ length input.now }
-    ensures { Takes (takeRecord (drop at input.now)) input.now result }
+    ensures { Takes (take_record (drop at input.now)) input.now result }
 {
     if input.len() - at < 2 {
         return Located::Bad;

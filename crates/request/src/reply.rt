@@ -3,7 +3,7 @@
 ghost use Rattle.std.specs.Prelude.{◌++◌, ◌+◌, ◌<◌, ◌≤◌, length};
 ghost use Rattle.replies.specs.Reply.{Bounded};
 ghost use Rattle.text.specs.Text.{Puts};
-ghost use Rattle.request.specs.Line.{countsText, okText, refusedText, replyText, sideText};
+ghost use Rattle.request.specs.Line.{counts_text, ok_text, refused_text, reply_text, side_text};
 
 use replies::answers::{Answer, answer_of};
 use replies::{Reply, Side};
@@ -14,7 +14,7 @@ fn put_record(count: usize, bytes: &[u8], out: &mut [u8]) -> usize
     requires count_bound { count ≤ 4854 }
     requires bytes_len_bound { length bytes.now ≤ 4854 }
     requires in_bounds { 9716 ≤ length out.old }
-    ensures { Puts (okText count bytes.now) 0 out.old result out.new }
+    ensures { Puts (ok_text count bytes.now) 0 out.old result out.new }
 {
     let ok = put_word(b"ok ", 0, out);
     let number = put_decimal(count, ok, out);
@@ -25,7 +25,7 @@ fn put_record(count: usize, bytes: &[u8], out: &mut [u8]) -> usize
 // Puts the counts of nodes and rows, each by its last four digits.
 fn put_counts(nodes: usize, rows: usize, out: &mut [u8]) -> usize
     requires { 9716 ≤ length out.old }
-    ensures { Puts (countsText nodes rows) 0 out.old result out.new }
+    ensures { Puts (counts_text nodes rows) 0 out.old result out.new }
 {
     let counts = put_word(b"counts ", 0, out);
     let number = put_decimal(nodes % 10000, counts, out);
@@ -37,7 +37,7 @@ fn put_counts(nodes: usize, rows: usize, out: &mut [u8]) -> usize
 fn put_refused(number: usize, out: &mut [u8]) -> usize
     requires number_bound { number < 256 }
     requires in_bounds { 9716 ≤ length out.old }
-    ensures { Puts (refusedText number) 0 out.old result out.new }
+    ensures { Puts (refused_text number) 0 out.old result out.new }
 {
     let refused = put_word(b"refused ", 0, out);
     put_decimal(number, refused, out)
@@ -46,7 +46,7 @@ fn put_refused(number: usize, out: &mut [u8]) -> usize
 // Puts which graph is refused.
 fn put_side(side: Side, at: usize, out: &mut [u8]) -> usize
     requires { at + 7 ≤ length out.old }
-    ensures { Puts (sideText side) at out.old result out.new }
+    ensures { Puts (side_text side) at out.old result out.new }
 {
     match side {
         Side::First => put_word(b" first", at, out),
@@ -58,7 +58,7 @@ fn put_side(side: Side, at: usize, out: &mut [u8]) -> usize
 fn put_refused_graph(number: usize, side: Side, out: &mut [u8]) -> usize
     requires number_bound { number < 256 }
     requires in_bounds { 9716 ≤ length out.old }
-    ensures { Puts (refusedText number ++ sideText side) 0 out.old result out.new }
+    ensures { Puts (refused_text number ++ side_text side) 0 out.old result out.new }
 {
     let refused = put_refused(number, out);
     put_side(side, refused, out)
@@ -69,7 +69,7 @@ pub fn put_reply(reply: Reply, output: &[u8], out: &mut [u8]) -> usize
     requires bounded { Bounded reply (length output.now) }
     requires output_len_bound { length output.now ≤ 4854 }
     requires in_bounds { 9716 ≤ length out.old }
-    ensures { Puts (replyText reply output.now) 0 out.old result out.new }
+    ensures { Puts (reply_text reply output.now) 0 out.old result out.new }
 {
     let answer = answer_of(reply);
     match answer {

@@ -13,55 +13,55 @@ use Rattle.graphs.specs.Large.{Distinct}
 use Rattle.graphs.proofs.Lists.{distinct-bound, map-listed}
 use Rattle.graphs.proofs.Search.{not-true-false, true-false, same_test}
 use Rattle.rows.specs.declared.Row.{Row}
-use Rattle.rows.specs.Rows.{is_of, targetIn, someOf, allKnown, hasTwice, labelIn, nodesIn, tableRows}
+use Rattle.rows.specs.Rows.{is_of, target_in, some_of, all_known, has_twice, label_in, nodes_in, table_rows}
 use Rattle.rows.specs.Reordered.{Reordered, same, kept, swapped, again, SameMembers}
 use Rattle.rows.proofs.Placed.{is-own, cond-false}
-use Rattle.rows.proofs.Tables.{is-of, row_is, target_row, linksOf-same}
+use Rattle.rows.proofs.Tables.{is-of, row_is, target_row, links_of-same}
 use Rattle.rows.proofs.Tests.{all-known-exact, some-source, some-member}
 
 -- a row gives the target of its parent and feature, where no two rows have one parent and feature
-pub row_target : (rs : List Row) (r : Row) → hasTwice rs ≡ false → Memᴰ r rs → targetIn rs r.parent r.feature ≡ some r.target
-unfolding targetIn hasTwice
+pub row_target : (rs : List Row) (r : Row) → has_twice rs ≡ false → Memᴰ r rs → target_in rs r.parent r.feature ≡ some r.target
+unfolding target_in has_twice
 row_target [] r once m = absurd (Memᴰ.not-nil m)
 row_target (x ∷ rs) r once m = go (is_of r.parent r.feature x) refl (Memᴰ.cases_cons m) (row_target rs r parts.1)
   where
-    parts : (someOf x.parent x.feature rs ≡ false) × (hasTwice rs ≡ false)
-    parts = cond-false (someOf x.parent x.feature rs) (hasTwice rs) once
+    parts : (some_of x.parent x.feature rs ≡ false) × (has_twice rs ≡ false)
+    parts = cond-false (some_of x.parent x.feature rs) (has_twice rs) once
 
     clash : is_of r.parent r.feature x ≡ true → Memᴰ r rs → ⊥
     clash e i =
         let own = is-of r.parent r.feature x e in
-        let z : true ≡ false = sym (some-member r rs i) ∙ ap₂ (λ (p f : ℕ). someOf p f rs) (sym own.0) (sym own.1) ∙ parts.0 in
+        let z : true ≡ false = sym (some-member r rs i) ∙ ap₂ (λ (p f : ℕ). some_of p f rs) (sym own.0) (sym own.1) ∙ parts.0 in
         let w : ◌≡◌ {A = ℕ} 0 1 = cc in omega arith
 
     off : is_of r.parent r.feature x ≡ false → r ≡ x → ⊥
     off e q = let z : true ≡ false = sym (is-own r) ∙ ap (is_of r.parent r.feature) q ∙ e in let w : ◌≡◌ {A = ℕ} 0 1 = cc in omega arith
 
-    go : (b : Bool) → is_of r.parent r.feature x ≡ b → (r ≡ x) ⊎ Memᴰ r rs → (Memᴰ r rs → targetIn rs r.parent r.feature ≡ some r.target) →
-        cond b (some x.target) (targetIn rs r.parent r.feature) ≡ some r.target
+    go : (b : Bool) → is_of r.parent r.feature x ≡ b → (r ≡ x) ⊎ Memᴰ r rs → (Memᴰ r rs → target_in rs r.parent r.feature ≡ some r.target) →
+        cond b (some x.target) (target_in rs r.parent r.feature) ≡ some r.target
     go true e c later = ⊎_elim (λ (q : r ≡ x). ap (λ (y : Row). some y.target) (sym q)) (λ i. absurd (clash e i)) c
     go false e c later = ⊎_elim (λ (q : r ≡ x). absurd (off e q)) (λ i. later i) c
 
-pub target-exact : (rs : List Row) → hasTwice rs ≡ false → (p f w : ℕ) → (targetIn rs p f ≡ some w) ↔ Memᴰ (record { parent = p; feature = f; target = w }) rs
+pub target-exact : (rs : List Row) → has_twice rs ≡ false → (p f w : ℕ) → (target_in rs p f ≡ some w) ↔ Memᴰ (record { parent = p; feature = f; target = w }) rs
 target-exact rs once p f w = (target_row rs p f w, λ m. row_target rs (record { parent = p; feature = f; target = w }) once m)
 
 -- no row stands twice where no two rows have one parent and feature
-once-distinct : (rs : List Row) → hasTwice rs ≡ false → Distinct rs
-unfolding hasTwice
+once-distinct : (rs : List Row) → has_twice rs ≡ false → Distinct rs
+unfolding has_twice
 once-distinct [] e = tt
 once-distinct (r ∷ rs) e =
-    let (free, later) = cond-false (someOf r.parent r.feature rs) (hasTwice rs) e in
+    let (free, later) = cond-false (some_of r.parent r.feature rs) (has_twice rs) e in
     (λ m. true-false (some-member r rs m) free, once-distinct rs later)
 
 -- Where rows with one parent and feature are equal, a table with two such rows can leave one out and still has all its rows.
 shorter : (rs : List Row) → ((r s : Row) → Memᴰ r rs → Memᴰ s rs → r.parent ≡ s.parent → r.feature ≡ s.feature → r ≡ s) →
-    hasTwice rs ≡ true → (xs : List Row) × (length rs ≡ suc (length xs)) × ((r : Row) → Memᴰ r rs → Memᴰ r xs)
-unfolding hasTwice
+    has_twice rs ≡ true → (xs : List Row) × (length rs ≡ suc (length xs)) × ((r : Row) → Memᴰ r rs → Memᴰ r xs)
+unfolding has_twice
 shorter [] one e = true-false e refl
-shorter (r ∷ rs) one e = go (someOf r.parent r.feature rs) refl e (shorter rs (λ x y m i. one x y (Memᴰ.tail m) (Memᴰ.tail i)))
+shorter (r ∷ rs) one e = go (some_of r.parent r.feature rs) refl e (shorter rs (λ x y m i. one x y (Memᴰ.tail m) (Memᴰ.tail i)))
   where
-    go : (b : Bool) → someOf r.parent r.feature rs ≡ b → cond b true (hasTwice rs) ≡ true →
-        (hasTwice rs ≡ true → (xs : List Row) × (length rs ≡ suc (length xs)) × ((x : Row) → Memᴰ x rs → Memᴰ x xs)) →
+    go : (b : Bool) → some_of r.parent r.feature rs ≡ b → cond b true (has_twice rs) ≡ true →
+        (has_twice rs ≡ true → (xs : List Row) × (length rs ≡ suc (length xs)) × ((x : Row) → Memᴰ x rs → Memᴰ x xs)) →
         (xs : List Row) × (suc (length rs) ≡ suc (length xs)) × ((x : Row) → Memᴰ x (r ∷ rs) → Memᴰ x xs)
     go true is h later =
         let (s, m, p, f) = some-source r.parent r.feature rs is in
@@ -79,36 +79,36 @@ shorter (r ∷ rs) one e = go (someOf r.parent r.feature rs) refl e (shorter rs 
 
 -- Two tables with the same rows.
 module _ {xs ys : List Row} (members : SameMembers xs ys) where
-  pub members-known : (n : ℕ) → allKnown n xs ≡ allKnown n ys
+  pub members-known : (n : ℕ) → all_known n xs ≡ all_known n ys
   members-known n =
-      same_test (allKnown n xs) (allKnown n ys) (λ e. (all-known-exact n ys).1 (λ r m. (all-known-exact n xs).0 e r (members.1 r m)))
+      same_test (all_known n xs) (all_known n ys) (λ e. (all-known-exact n ys).1 (λ r m. (all-known-exact n xs).0 e r (members.1 r m)))
       (λ e. (all-known-exact n xs).1 (λ r m. (all-known-exact n ys).0 e r (members.0 r m)))
 
   -- Both tables have as many rows, and in one of them no two rows have one parent and feature.
-  module _ (long : length xs ≡ length ys) (once : hasTwice xs ≡ false) where
+  module _ (long : length xs ≡ length ys) (once : has_twice xs ≡ false) where
     one-target : (r s : Row) → Memᴰ r ys → Memᴰ s ys → r.parent ≡ s.parent → r.feature ≡ s.feature → r ≡ s
     one-target r s m i p f =
         let t : some r.target ≡ some s.target =
-        sym (row_target xs r once (members.1 r m)) ∙ ap₂ (targetIn xs) p f ∙ row_target xs s once (members.1 s i) in
+        sym (row_target xs r once (members.1 r m)) ∙ ap₂ (target_in xs) p f ∙ row_target xs s once (members.1 s i) in
         row_is p f cc
 
-    members-once : hasTwice ys ≡ false
+    members-once : has_twice ys ≡ false
     members-once =
-        not-true-false (hasTwice ys) (λ e.
+        not-true-false (has_twice ys) (λ e.
         let (zs, l, all) = shorter ys one-target e in
         omega (arith, distinct-bound xs zs (once-distinct xs once) (λ r m. all r (members.0 r m))))
 
   -- In neither table do two rows have one parent and feature.
-  module _ (once : hasTwice xs ≡ false) (once' : hasTwice ys ≡ false) where
+  module _ (once : has_twice xs ≡ false) (once' : has_twice ys ≡ false) where
     -- both tables have as many rows
     pub members-length : length xs ≡ length ys
     members-length =
         omega (arith, distinct-bound xs ys (once-distinct xs once) members.0, distinct-bound ys xs (once-distinct ys once') members.1)
 
-    target-same : (p f : ℕ) → targetIn xs p f ≡ targetIn ys p f
-    target-same p f = go (targetIn xs p f) (targetIn ys p f) refl refl
+    target-same : (p f : ℕ) → target_in xs p f ≡ target_in ys p f
+    target-same p f = go (target_in xs p f) (target_in ys p f) refl refl
       where
-        go : (a b : Option ℕ) → targetIn xs p f ≡ a → targetIn ys p f ≡ b → targetIn xs p f ≡ targetIn ys p f
+        go : (a b : Option ℕ) → target_in xs p f ≡ a → target_in ys p f ≡ b → target_in xs p f ≡ target_in ys p f
         go (some w) b e q =
             e ∙ sym (row_target ys (record { parent = p; feature = f; target = w }) once' (members.0 (record { parent = p; feature = f; target = w }) (target_row xs p f w e)))
         go none none e q = e ∙ sym q
@@ -116,17 +116,17 @@ module _ {xs ys : List Row} (members : SameMembers xs ys) where
             row_target xs (record { parent = p; feature = f; target = w }) once (members.1 (record { parent = p; feature = f; target = w }) (target_row ys p f w q)) ∙ sym q
 
     -- both tables state one graph
-    pub members-table : (nodes : List ℕ) → tableRows nodes xs ≡ tableRows nodes ys
-    unfolding tableRows
+    pub members-table : (nodes : List ℕ) → table_rows nodes xs ≡ table_rows nodes ys
+    unfolding table_rows
     members-table nodes =
-        map-listed (from 0 (nodesIn nodes)) (λ v m.
-        ap (λ (ls : List (ℕ × ℕ)). (labelIn nodes v, ls)) (linksOf-same (targetIn xs v) (targetIn ys v) features (λ f i. target-same v f)))
+        map-listed (from 0 (nodes_in nodes)) (λ v m.
+        ap (λ (ls : List (ℕ × ℕ)). (label_in nodes v, ls)) (links_of-same (target_in xs v) (target_in ys v) features (λ f i. target-same v f)))
 
 -- of two tables with as many of the same rows, 15 applies to both or to neither
-pub members-twice : {xs ys : List Row} → SameMembers xs ys → length xs ≡ length ys → hasTwice xs ≡ hasTwice ys
-members-twice {xs} {ys} members long = go (hasTwice xs) (hasTwice ys) refl refl
+pub members-twice : {xs ys : List Row} → SameMembers xs ys → length xs ≡ length ys → has_twice xs ≡ has_twice ys
+members-twice {xs} {ys} members long = go (has_twice xs) (has_twice ys) refl refl
   where
-    go : (a b : Bool) → hasTwice xs ≡ a → hasTwice ys ≡ b → hasTwice xs ≡ hasTwice ys
+    go : (a b : Bool) → has_twice xs ≡ a → has_twice ys ≡ b → has_twice xs ≡ has_twice ys
     go true true e q = e ∙ sym q
     go true false e q = true-false e (members-once (members.1, members.0) (sym long) q)
     go false true e q = true-false q (members-once members long e)

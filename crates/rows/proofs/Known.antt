@@ -10,59 +10,59 @@ use lib.ListN.{length, get_or, take, drop, drop_of_length-le}
 use lib.Seq.{length-take-le, drop-cons, get_or-take}
 use borrow.Author.Tests.{lt-ltb, le-ltb, ltb-true, ltb-false}
 use Rattle.rows.specs.declared.Row.{Row}
-use Rattle.rows.specs.Rows.{no_row, isKnown, allKnown}
+use Rattle.rows.specs.Rows.{no_row, is_known, all_known}
 use Rattle.rows.specs.Placing.{AllNear}
 
 module _ (n : ℕ) (r : Row) where
-  pub far-feature : 63 < r.feature → false ≡ isKnown n r
-  unfolding isKnown
+  pub far-feature : 63 < r.feature → false ≡ is_known n r
+  unfolding is_known
   far-feature h = simp (lt-ltb 63 r.feature h)
 
-  pub far-parent : r.feature ≤ 63 → n ≤ r.parent → false ≡ isKnown n r
-  unfolding isKnown
+  pub far-parent : r.feature ≤ 63 → n ≤ r.parent → false ≡ is_known n r
+  unfolding is_known
   far-parent h k = simp (le-ltb 63 r.feature h, le-ltb r.parent n k)
 
-  pub near : r.feature ≤ 63 → r.parent < n → ltb r.target n ≡ isKnown n r
-  unfolding isKnown
+  pub near : r.feature ≤ 63 → r.parent < n → ltb r.target n ≡ is_known n r
+  unfolding is_known
   near h k = simp (le-ltb 63 r.feature h, lt-ltb r.parent n k)
 
 -- all rows are known exactly where those from i on are
 abbrev pub Left : ℕ → ℕ → List Row → ℕ → Type 0
-Left n count all i = allKnown n (take count all) ≡ allKnown n (drop i (take count all))
+Left n count all i = all_known n (take count all) ≡ all_known n (drop i (take count all))
 
 module _ (n count : ℕ) (all : List Row) (h : count ≤ length all) where
   at : (i : ℕ) → i < count → drop i (take count all) ≡ get_or all i no_row ∷ drop (suc i) (take count all)
   at i k = drop-cons (take count all) i no_row (subst (λ (m : ℕ). i < m) (sym (length-take-le count all h)) k) ∙ ap (λ (x : Row). x ∷ drop (suc i) (take count all)) (get_or-take count all i no_row k)
 
-  head : (r : Row) (rs : List Row) (b : Bool) → isKnown n r ≡ b → allKnown n (r ∷ rs) ≡ cond b (allKnown n rs) false
-  unfolding allKnown
-  head r rs b e = ap (λ (t : Bool). cond t (allKnown n rs) false) e
+  head : (r : Row) (rs : List Row) (b : Bool) → is_known n r ≡ b → all_known n (r ∷ rs) ≡ cond b (all_known n rs) false
+  unfolding all_known
+  head r rs b e = ap (λ (t : Bool). cond t (all_known n rs) false) e
 
-  pub stop : (i : ℕ) → Left n count all i → i < count → isKnown n (get_or all i no_row) ≡ false → false ≡ allKnown n (take count all)
-  stop i l k e = sym (l ∙ ap (allKnown n) (at i k) ∙ head (get_or all i no_row) (drop (suc i) (take count all)) false e)
+  pub stop : (i : ℕ) → Left n count all i → i < count → is_known n (get_or all i no_row) ≡ false → false ≡ all_known n (take count all)
+  stop i l k e = sym (l ∙ ap (all_known n) (at i k) ∙ head (get_or all i no_row) (drop (suc i) (take count all)) false e)
 
-  pub next : (i : ℕ) → Left n count all i → i < count → isKnown n (get_or all i no_row) ≡ true → Left n count all (i + 1)
-  next i l k e = l ∙ ap (allKnown n) (at i k) ∙ head (get_or all i no_row) (drop (suc i) (take count all)) true e ∙ ap (λ (m : ℕ). allKnown n (drop m (take count all))) (sym (add-one i))
+  pub next : (i : ℕ) → Left n count all i → i < count → is_known n (get_or all i no_row) ≡ true → Left n count all (i + 1)
+  next i l k e = l ∙ ap (all_known n) (at i k) ∙ head (get_or all i no_row) (drop (suc i) (take count all)) true e ∙ ap (λ (m : ℕ). all_known n (drop m (take count all))) (sym (add-one i))
 
-  pub end : (i : ℕ) → Left n count all i → count ≤ i → true ≡ allKnown n (take count all)
-  unfolding allKnown
-  end i l k = sym (l ∙ ap (allKnown n) (drop_of_length-le (take count all) (subst (λ (m : ℕ). m ≤ i) (sym (length-take-le count all h)) k)))
+  pub end : (i : ℕ) → Left n count all i → count ≤ i → true ≡ all_known n (take count all)
+  unfolding all_known
+  end i l k = sym (l ∙ ap (all_known n) (drop_of_length-le (take count all) (subst (λ (m : ℕ). m ≤ i) (sym (length-take-le count all h)) k)))
 
 -- rows that are all known are known one by one
-pub known-each : (n : ℕ) (rs : List Row) (i : ℕ) → allKnown n rs ≡ true → i < length rs → isKnown n (get_or rs i no_row) ≡ true
-unfolding allKnown
+pub known-each : (n : ℕ) (rs : List Row) (i : ℕ) → all_known n rs ≡ true → i < length rs → is_known n (get_or rs i no_row) ≡ true
+unfolding all_known
 known-each n [] i e h = absurd (omega arith)
-known-each n (r ∷ rs) i e h = go (isKnown n r) refl e i h (λ j. known-each n rs j)
+known-each n (r ∷ rs) i e h = go (is_known n r) refl e i h (λ j. known-each n rs j)
   where
-    go : (b : Bool) → isKnown n r ≡ b → cond b (allKnown n rs) false ≡ true → (j : ℕ) → j < suc (length rs) →
-        ((k : ℕ) → allKnown n rs ≡ true → k < length rs → isKnown n (get_or rs k no_row) ≡ true) → isKnown n (get_or (r ∷ rs) j no_row) ≡ true
+    go : (b : Bool) → is_known n r ≡ b → cond b (all_known n rs) false ≡ true → (j : ℕ) → j < suc (length rs) →
+        ((k : ℕ) → all_known n rs ≡ true → k < length rs → is_known n (get_or rs k no_row) ≡ true) → is_known n (get_or (r ∷ rs) j no_row) ≡ true
     go false q h j l later = let z : ◌≡◌ {A = ℕ} 0 1 = cc in absurd (omega arith)
     go true q h zero l later = q
     go true q h (suc j) l later = later j h (omega arith)
 
 -- a known row has a feature below 64, and a parent and a target below n
-pub known-parts : (n : ℕ) (r : Row) → isKnown n r ≡ true → (r.feature < 64) × (r.parent < n) × (r.target < n)
-unfolding isKnown
+pub known-parts : (n : ℕ) (r : Row) → is_known n r ≡ true → (r.feature < 64) × (r.parent < n) × (r.target < n)
+unfolding is_known
 known-parts n r = go (ltb 63 r.feature) refl (ltb r.parent n) refl
   where
     go : (b : Bool) → ltb 63 r.feature ≡ b → (d : Bool) → ltb r.parent n ≡ d → cond b false (cond d (ltb r.target n) false) ≡ true →
@@ -72,9 +72,9 @@ known-parts n r = go (ltb 63 r.feature) refl (ltb r.parent n) refl
     go false p true q h = (omega (arith, ltb-false 63 r.feature p), ltb-true r.parent n q, ltb-true r.target n h)
 
 -- known rows have places in the table of targets
-pub known-near : (n count : ℕ) (all : List Row) → n ≤ 255 → count ≤ length all → allKnown n (take count all) ≡ true → AllNear count all
+pub known-near : (n count : ℕ) (all : List Row) → n ≤ 255 → count ≤ length all → all_known n (take count all) ≡ true → AllNear count all
 known-near n count all few inside e i h =
-    let r : isKnown n (get_or all i no_row) ≡ true =
-    sym (ap (isKnown n) (get_or-take count all i no_row h)) ∙ known-each n (take count all) i e (subst (λ (m : ℕ). i < m) (sym (length-take-le count all inside)) h) in
+    let r : is_known n (get_or all i no_row) ≡ true =
+    sym (ap (is_known n) (get_or-take count all i no_row h)) ∙ known-each n (take count all) i e (subst (λ (m : ℕ). i < m) (sym (length-take-le count all inside)) h) in
     let (f, p, t) = known-parts n (get_or all i no_row) r in
     (omega arith, f)

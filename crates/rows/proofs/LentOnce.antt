@@ -9,16 +9,16 @@ use native.Mathlib.Nat.{mul-div_cancel}
 use native.Mathlib.Omega.{arith}
 use borrow.Author.Tests.{eq-eqb, ne_eqb}
 use lib.ListN.{length, get_or}
-use Rattle.graphs.specs.Rows.{Row, from, target, linksOf, addLink}
+use Rattle.graphs.specs.Rows.{Row, from, target, links_of, add_link}
 use Rattle.graphs.specs.Large.{Ascending, Distinct}
-use Rattle.graphs.proofs.Lists.{from_member, from-range, mem-features, getD-member}
-use Rattle.graphs.proofs.Rows.{linksOf-member}
+use Rattle.graphs.proofs.Lists.{from_member, from-range, mem-features, get_or-member}
+use Rattle.graphs.proofs.Rows.{links_of-member}
 use Rattle.lattice.specs.Label.{Label, no_label}
 use Rattle.rows.specs.declared.Row as lent
-use Rattle.rows.specs.Rows.{targetIn, someOf, allKnown, hasTwice, nodesIn, tableRows, lentRows, lentNodes}
+use Rattle.rows.specs.Rows.{target_in, some_of, all_known, has_twice, nodes_in, table_rows, lent_rows, lent_nodes}
 use Rattle.rows.proofs.LentRows.{nodes-length}
 use Rattle.rows.proofs.Tests.{all-known-exact, some-source}
-use Rattle.rows.proofs.Tables.{row_is, lent-said, lent-distinct, linksOf-same, stated}
+use Rattle.rows.proofs.Tables.{row_is, lent-said, lent-distinct, links_of-same, stated}
 use Rattle.rows.proofs.RoundTrip.{table-of-lent}
 
 -- Links that ascend are those by feature.
@@ -38,25 +38,25 @@ target_first : (l : ℕ × ℕ) (ls : List (ℕ × ℕ)) (k : ℕ) → l.0 ≡ k
 unfolding target
 target_first l ls k e = ap (λ (b : Bool). cond b (some l.1) (target ls k)) (eq-eqb l.0 k e)
 
-tidy : (n k : ℕ) (ls : List (ℕ × ℕ)) → Ascending ls → ((l : ℕ × ℕ) → Memᴰ l ls → (k ≤ l.0) × (l.0 < k + n)) → linksOf (target ls) (from k n) ≡ ls
-unfolding from linksOf
+tidy : (n k : ℕ) (ls : List (ℕ × ℕ)) → Ascending ls → ((l : ℕ × ℕ) → Memᴰ l ls → (k ≤ l.0) × (l.0 < k + n)) → links_of (target ls) (from k n) ≡ ls
+unfolding from links_of
 tidy zero k [] a h = refl
 tidy zero k (l ∷ ls) a h = let (low, high) = h l (mathlib.Core.List.Memᴰ.head refl) in absurd (omega arith)
 tidy (suc n) k [] a h =
-    ap (λ (o : Option ℕ). addLink k o (linksOf (target []) (from (suc k) n))) (target-low k [] (λ l m. absurd (mathlib.Core.List.Memᴰ.not-nil m)))
+    ap (λ (o : Option ℕ). add_link k o (links_of (target []) (from (suc k) n))) (target-low k [] (λ l m. absurd (mathlib.Core.List.Memᴰ.not-nil m)))
     ∙ tidy n (suc k) [] tt (λ l m. absurd (mathlib.Core.List.Memᴰ.not-nil m))
 tidy (suc n) k (l ∷ ls) a h = go (ℕ_discrete l.0 k) (tidy n (suc k))
   where
-    go : Dec (l.0 ≡ k) → ((ms : List (ℕ × ℕ)) → Ascending ms → ((m : ℕ × ℕ) → Memᴰ m ms → (suc k ≤ m.0) × (m.0 < suc k + n)) → linksOf (target ms) (from (suc k) n) ≡ ms) →
-        addLink k (target (l ∷ ls) k) (linksOf (target (l ∷ ls)) (from (suc k) n)) ≡ l ∷ ls
+    go : Dec (l.0 ≡ k) → ((ms : List (ℕ × ℕ)) → Ascending ms → ((m : ℕ × ℕ) → Memᴰ m ms → (suc k ≤ m.0) × (m.0 < suc k + n)) → links_of (target ms) (from (suc k) n) ≡ ms) →
+        add_link k (target (l ∷ ls) k) (links_of (target (l ∷ ls)) (from (suc k) n)) ≡ l ∷ ls
     go (yes e) later =
-        ap₂ (λ (o : Option ℕ) (ms : List (ℕ × ℕ)). addLink k o ms) (target_first l ls k e)
-        (linksOf-same (target (l ∷ ls)) (target ls) (from (suc k) n) (λ f m. target_past l ls f (omega (arith, (from-range (suc k) n f m).0)))
+        ap₂ (λ (o : Option ℕ) (ms : List (ℕ × ℕ)). add_link k o ms) (target_first l ls k e)
+        (links_of-same (target (l ∷ ls)) (target ls) (from (suc k) n) (λ f m. target_past l ls f (omega (arith, (from-range (suc k) n f m).0)))
         ∙ later ls a.1 (λ m i. (omega (arith, a.0 m i), omega (arith, (h m (mathlib.Core.List.Memᴰ.tail i)).1))))
         ∙ ap (λ (x : ℕ × ℕ). x ∷ ls) (ap (λ (f : ℕ). (f, l.1)) (sym e))
     go (no d) later =
         let low : k < l.0 = omega (arith, (h l (mathlib.Core.List.Memᴰ.head refl)).0) in
-        ap (λ (o : Option ℕ). addLink k o (linksOf (target (l ∷ ls)) (from (suc k) n)))
+        ap (λ (o : Option ℕ). add_link k o (links_of (target (l ∷ ls)) (from (suc k) n)))
         (target-low k (l ∷ ls) (λ m i. omega (arith, first l ls a m i, low)))
         ∙ later (l ∷ ls) a (λ m i. (omega (arith, first l ls a m i, low), omega (arith, (h m i).1)))
       where
@@ -66,55 +66,55 @@ tidy (suc n) k (l ∷ ls) a h = go (ℕ_discrete l.0 k) (tidy n (suc k))
 
 -- Rows that are different and agree on targets have no parent and feature twice.
 
-once-from : (next : ℕ → ℕ → Option ℕ) (rs : List lent.Row) → Distinct rs → ((r : lent.Row) → Memᴰ r rs → next r.parent r.feature ≡ some r.target) → hasTwice rs ≡ false
-unfolding hasTwice
+once-from : (next : ℕ → ℕ → Option ℕ) (rs : List lent.Row) → Distinct rs → ((r : lent.Row) → Memᴰ r rs → next r.parent r.feature ≡ some r.target) → has_twice rs ≡ false
+unfolding has_twice
 once-from next [] d h = refl
-once-from next (r ∷ rs) d h = go (someOf r.parent r.feature rs) refl (once-from next rs d.1 (λ x m. h x (mathlib.Core.List.Memᴰ.tail m)))
+once-from next (r ∷ rs) d h = go (some_of r.parent r.feature rs) refl (once-from next rs d.1 (λ x m. h x (mathlib.Core.List.Memᴰ.tail m)))
   where
-    clash : someOf r.parent r.feature rs ≡ true → ⊥
+    clash : some_of r.parent r.feature rs ≡ true → ⊥
     clash e =
         let (x, m, p, f) = some-source r.parent r.feature rs e in
         let t : some r.target ≡ some x.target = sym (h r (mathlib.Core.List.Memᴰ.head refl)) ∙ ap₂ next (sym p) (sym f) ∙ h x (mathlib.Core.List.Memᴰ.tail m) in
         let same : r.target ≡ x.target = cc in
         d.0 (subst (λ (y : lent.Row). Memᴰ y rs) (row_is p f (sym same)) m)
 
-    go : (b : Bool) → someOf r.parent r.feature rs ≡ b → hasTwice rs ≡ false → cond (someOf r.parent r.feature rs) true (hasTwice rs) ≡ false
+    go : (b : Bool) → some_of r.parent r.feature rs ≡ b → has_twice rs ≡ false → cond (some_of r.parent r.feature rs) true (has_twice rs) ≡ false
     go true e later = absurd (clash e)
-    go false e later = ap (λ (b : Bool). cond b true (hasTwice rs)) e ∙ later
+    go false e later = ap (λ (b : Bool). cond b true (has_twice rs)) e ∙ later
 
 -- The rows of a graph.
 module _ (form : List (Row Label)) (proper : (r : Row Label) → Memᴰ r form → Ascending r.1 × ((l : ℕ × ℕ) → Memᴰ l r.1 → l.0 < 64)) where
-  pub lent-table : tableRows (lentNodes form) (lentRows form) ≡ form
+  pub lent-table : table_rows (lent_nodes form) (lent_rows form) ≡ form
   lent-table =
       table-of-lent form (λ i h.
-      let (up, small) = proper (get_or form i (no_label, [])) (getD-member form i (no_label, []) h) in
+      let (up, small) = proper (get_or form i (no_label, [])) (get_or-member form i (no_label, []) h) in
       tidy 64 0 (get_or form i (no_label, [])).1 up (λ l m. (omega arith, omega (arith, small l m))))
 
-  nodes-are : nodesIn (lentNodes form) ≡ length form
+  nodes-are : nodes_in (lent_nodes form) ≡ length form
   nodes-are = ap (λ (n : ℕ). n / 3) (nodes-length form) ∙ mul-div_cancel (length form) {n = 3} (omega arith)
 
   -- the graph that the lent table states has the lent rows
-  lent_rows : lentRows (map (stated (lentNodes form) (lentRows form)) (from 0 (nodesIn (lentNodes form)))) ≡ lentRows form
-  unfolding tableRows
-  lent_rows = ap lentRows lent-table
+  lent_rows_lem : lent_rows (map (stated (lent_nodes form) (lent_rows form)) (from 0 (nodes_in (lent_nodes form)))) ≡ lent_rows form
+  unfolding table_rows
+  lent_rows_lem = ap lent_rows lent-table
 
-  said : (r : lent.Row) → Memᴰ r (lentRows form) → (0 ≤ r.parent) × (r.parent < 0 + nodesIn (lentNodes form)) × (r.feature < 64) × (targetIn (lentRows form) r.parent r.feature ≡ some r.target)
-  said r m = lent-said (lentNodes form) (lentRows form) (nodesIn (lentNodes form)) 0 r (subst (λ (x : List lent.Row). Memᴰ r x) (sym lent_rows) m)
+  said : (r : lent.Row) → Memᴰ r (lent_rows form) → (0 ≤ r.parent) × (r.parent < 0 + nodes_in (lent_nodes form)) × (r.feature < 64) × (target_in (lent_rows form) r.parent r.feature ≡ some r.target)
+  said r m = lent-said (lent_nodes form) (lent_rows form) (nodes_in (lent_nodes form)) 0 r (subst (λ (x : List lent.Row). Memᴰ r x) (sym lent_rows_lem) m)
 
   -- 15 does not apply to the lent rows
-  pub lent-once : hasTwice (lentRows form) ≡ false
+  pub lent-once : has_twice (lent_rows form) ≡ false
   lent-once =
-      once-from (targetIn (lentRows form)) (lentRows form)
-      (subst Distinct lent_rows (lent-distinct (lentNodes form) (lentRows form) (nodesIn (lentNodes form)) 0)) (λ r m. (said r m).3)
+      once-from (target_in (lent_rows form)) (lent_rows form)
+      (subst Distinct lent_rows_lem (lent-distinct (lent_nodes form) (lent_rows form) (nodes_in (lent_nodes form)) 0)) (λ r m. (said r m).3)
 
   -- 14 does not apply to the lent rows
-  pub lent-known : ((r : Row Label) → Memᴰ r form → (l : ℕ × ℕ) → Memᴰ l r.1 → l.1 < length form) → allKnown (nodesIn (lentNodes form)) (lentRows form) ≡ true
-  unfolding tableRows
+  pub lent-known : ((r : Row Label) → Memᴰ r form → (l : ℕ × ℕ) → Memᴰ l r.1 → l.1 < length form) → all_known (nodes_in (lent_nodes form)) (lent_rows form) ≡ true
+  unfolding table_rows
   lent-known targets =
-      (all-known-exact (nodesIn (lentNodes form)) (lentRows form)).1 (λ r m.
+      (all-known-exact (nodes_in (lent_nodes form)) (lent_rows form)).1 (λ r m.
       let (low, high, f, e) = said r m in
-      let row : Memᴰ (stated (lentNodes form) (lentRows form) r.parent) (map (stated (lentNodes form) (lentRows form)) (from 0 (nodesIn (lentNodes form)))) =
-      mathlib.Core.List.Memᴰ.map (stated (lentNodes form) (lentRows form)) (from_member 0 (nodesIn (lentNodes form)) r.parent low high) in
-      let t = targets (stated (lentNodes form) (lentRows form) r.parent) (subst (λ (x : List (Row Label)). Memᴰ (stated (lentNodes form) (lentRows form) r.parent) x) lent-table row) (r.feature, r.target)
-      (linksOf-member (targetIn (lentRows form) r.parent) (mem-features r.feature f) e) in
+      let row : Memᴰ (stated (lent_nodes form) (lent_rows form) r.parent) (map (stated (lent_nodes form) (lent_rows form)) (from 0 (nodes_in (lent_nodes form)))) =
+      mathlib.Core.List.Memᴰ.map (stated (lent_nodes form) (lent_rows form)) (from_member 0 (nodes_in (lent_nodes form)) r.parent low high) in
+      let t = targets (stated (lent_nodes form) (lent_rows form) r.parent) (subst (λ (x : List (Row Label)). Memᴰ (stated (lent_nodes form) (lent_rows form) r.parent) x) lent-table row) (r.feature, r.target)
+      (links_of-member (target_in (lent_rows form) r.parent) (mem-features r.feature f) e) in
       (f, omega arith, omega (arith, t, nodes-are)))

@@ -9,11 +9,11 @@ use native.Mathlib.Omega.{arith}
 use lib.Dec.{eqb}
 use lib.ListN.{length, get_or}
 use borrow.Author.Tests.{eq-eqb, ne_eqb}
-use Rattle.graphs.specs.Rows.{Row, features, from, target, linksOf}
-use Rattle.graphs.proofs.Form.Invariant.{linksOf-cong}
+use Rattle.graphs.specs.Rows.{Row, features, from, target, links_of}
+use Rattle.graphs.proofs.Form.Invariant.{links_of-cong}
 use Rattle.lattice.specs.Label.{Label, no_label}
 use Rattle.rows.specs.declared.Row as lent
-use Rattle.rows.specs.Rows.{is_of, targetIn, labelIn, tableRows, lentLink, lentFrom, lentRows, lentNodes}
+use Rattle.rows.specs.Rows.{is_of, target_in, label_in, table_rows, lent_link, lent_from, lent_rows, lent_nodes}
 use Rattle.rows.proofs.LentRows.{nodes-length}
 
 -- Lists.
@@ -32,48 +32,48 @@ module _ (p f : ℕ) where
   or_else none y = y
   or_else (some x) y = some x
 
-  both : (xs ys : List lent.Row) → targetIn (xs ++ ys) p f ≡ or_else (targetIn xs p f) (targetIn ys p f)
-  unfolding targetIn
+  both : (xs ys : List lent.Row) → target_in (xs ++ ys) p f ≡ or_else (target_in xs p f) (target_in ys p f)
+  unfolding target_in
   both [] ys = refl
   both (r ∷ xs) ys = go (is_of p f r) (both xs ys)
     where
-      go : (t : Bool) → targetIn (xs ++ ys) p f ≡ or_else (targetIn xs p f) (targetIn ys p f)
-          → cond t (some r.target) (targetIn (xs ++ ys) p f) ≡ or_else (cond t (some r.target) (targetIn xs p f)) (targetIn ys p f)
+      go : (t : Bool) → target_in (xs ++ ys) p f ≡ or_else (target_in xs p f) (target_in ys p f)
+          → cond t (some r.target) (target_in (xs ++ ys) p f) ≡ or_else (cond t (some r.target) (target_in xs p f)) (target_in ys p f)
       go true e = refl
       go false e = e
 
-  elsewhere : (v : ℕ) (ls : List (ℕ × ℕ)) → (v ≡ p → ⊥) → targetIn (map (lentLink v) ls) p f ≡ none
-  unfolding targetIn is_of
+  elsewhere : (v : ℕ) (ls : List (ℕ × ℕ)) → (v ≡ p → ⊥) → target_in (map (lent_link v) ls) p f ≡ none
+  unfolding target_in is_of
   elsewhere v [] h = refl
-  elsewhere v (l ∷ ls) h = ap (λ (t : Bool). cond (cond t (eqb l.0 f) false) (some l.1) (targetIn (map (lentLink v) ls) p f)) (ne_eqb v p h) ∙ elsewhere v ls h
+  elsewhere v (l ∷ ls) h = ap (λ (t : Bool). cond (cond t (eqb l.0 f) false) (some l.1) (target_in (map (lent_link v) ls) p f)) (ne_eqb v p h) ∙ elsewhere v ls h
 
-  later : (rs : List (Row Label)) (v : ℕ) → p < v → targetIn (lentFrom v rs) p f ≡ none
-  unfolding targetIn lentFrom
+  later : (rs : List (Row Label)) (v : ℕ) → p < v → target_in (lent_from v rs) p f ≡ none
+  unfolding target_in lent_from
   later [] v h = refl
-  later (r ∷ rs) v h = both (map (lentLink v) r.1) (lentFrom (suc v) rs) ∙ ap₂ or_else (elsewhere v r.1 (λ e. omega (arith, h, e))) (later rs (suc v) (omega (arith, h)))
+  later (r ∷ rs) v h = both (map (lent_link v) r.1) (lent_from (suc v) rs) ∙ ap₂ or_else (elsewhere v r.1 (λ e. omega (arith, h, e))) (later rs (suc v) (omega (arith, h)))
 
-here : (v f : ℕ) (ls : List (ℕ × ℕ)) → targetIn (map (lentLink v) ls) v f ≡ target ls f
-unfolding targetIn is_of target
+here : (v f : ℕ) (ls : List (ℕ × ℕ)) → target_in (map (lent_link v) ls) v f ≡ target ls f
+unfolding target_in is_of target
 here v f [] = refl
-here v f (l ∷ ls) = ap (λ (t : Bool). cond (cond t (eqb l.0 f) false) (some l.1) (targetIn (map (lentLink v) ls) v f)) (eq-eqb v v refl) ∙ ap (λ (o : Option ℕ). cond (eqb l.0 f) (some l.1) o) (here v f ls)
+here v f (l ∷ ls) = ap (λ (t : Bool). cond (cond t (eqb l.0 f) false) (some l.1) (target_in (map (lent_link v) ls) v f)) (eq-eqb v v refl) ∙ ap (λ (o : Option ℕ). cond (eqb l.0 f) (some l.1) o) (here v f ls)
 
-orNone : (p f : ℕ) (o : Option ℕ) → or_else p f o none ≡ o
-orNone p f none = refl
-orNone p f (some x) = refl
+or_none : (p f : ℕ) (o : Option ℕ) → or_else p f o none ≡ o
+or_none p f none = refl
+or_none p f (some x) = refl
 
 abbrev no_row : Row Label
 no_row = (no_label, [])
 
 -- the targets of node v + i are those of row i
-targets : (f : ℕ) (rs : List (Row Label)) (v i : ℕ) → i < length rs → targetIn (lentFrom v rs) (v + i) f ≡ target (get_or rs i no_row).1 f
-unfolding lentFrom
+targets : (f : ℕ) (rs : List (Row Label)) (v i : ℕ) → i < length rs → target_in (lent_from v rs) (v + i) f ≡ target (get_or rs i no_row).1 f
+unfolding lent_from
 targets f [] v i h = absurd (omega (arith, h))
 targets f (r ∷ rs) v zero h =
-    ap (λ (p : ℕ). targetIn (map (lentLink v) r.1 ++ lentFrom (suc v) rs) p f) (add-zero v) ∙ both v f (map (lentLink v) r.1) (lentFrom (suc v) rs)
-    ∙ ap₂ (or_else v f) (here v f r.1) (later v f rs (suc v) (omega arith)) ∙ orNone v f (target r.1 f)
+    ap (λ (p : ℕ). target_in (map (lent_link v) r.1 ++ lent_from (suc v) rs) p f) (add-zero v) ∙ both v f (map (lent_link v) r.1) (lent_from (suc v) rs)
+    ∙ ap₂ (or_else v f) (here v f r.1) (later v f rs (suc v) (omega arith)) ∙ or_none v f (target r.1 f)
 targets f (r ∷ rs) v (suc i) h =
-    both (v + suc i) f (map (lentLink v) r.1) (lentFrom (suc v) rs) ∙ ap (λ (o : Option ℕ). or_else (v + suc i) f o (targetIn (lentFrom (suc v) rs) (v + suc i) f)) (elsewhere (v + suc i) f v r.1 (λ e. omega (arith, e)))
-    ∙ ap (λ (p : ℕ). targetIn (lentFrom (suc v) rs) p f) (add-suc v i ∙ sym (suc-add v i)) ∙ targets f rs (suc v) i (omega (arith, h))
+    both (v + suc i) f (map (lent_link v) r.1) (lent_from (suc v) rs) ∙ ap (λ (o : Option ℕ). or_else (v + suc i) f o (target_in (lent_from (suc v) rs) (v + suc i) f)) (elsewhere (v + suc i) f v r.1 (λ e. omega (arith, e)))
+    ∙ ap (λ (p : ℕ). target_in (lent_from (suc v) rs) p f) (add-suc v i ∙ sym (suc-add v i)) ∙ targets f rs (suc v) i (omega (arith, h))
 
 -- Labels.
 
@@ -83,20 +83,20 @@ past a b c ts m k e = ap (λ (n : ℕ). get_or (a ∷ b ∷ c ∷ ts) n 0) e
 pub label_of : {t t' l l' h h' : ℕ} → t ≡ t' → l ≡ l' → h ≡ h' → ◌≡◌ {A = Label} (record { type = t; lowest = l; highest = h }) (record { type = t'; lowest = l'; highest = h' })
 label_of a b c = λ j. record { type = a j; lowest = b j; highest = c j }
 
-labels : (rs : List (Row Label)) (i : ℕ) → i < length rs → labelIn (lentNodes rs) i ≡ (get_or rs i no_row).0
-unfolding lentNodes
+labels : (rs : List (Row Label)) (i : ℕ) → i < length rs → label_in (lent_nodes rs) i ≡ (get_or rs i no_row).0
+unfolding lent_nodes
 labels [] i h = absurd (omega (arith, h))
 labels (r ∷ rs) zero h = refl
 labels (r ∷ rs) (suc i) h =
-    label_of (past r.0.type r.0.lowest r.0.highest (lentNodes rs) (suc i * 3) (i * 3) (omega arith))
-    (past r.0.type r.0.lowest r.0.highest (lentNodes rs) (suc i * 3 + 1) (i * 3 + 1) (omega arith))
-    (past r.0.type r.0.lowest r.0.highest (lentNodes rs) (suc i * 3 + 2) (i * 3 + 2) (omega arith)) ∙ labels rs i (omega (arith, h))
+    label_of (past r.0.type r.0.lowest r.0.highest (lent_nodes rs) (suc i * 3) (i * 3) (omega arith))
+    (past r.0.type r.0.lowest r.0.highest (lent_nodes rs) (suc i * 3 + 1) (i * 3 + 1) (omega arith))
+    (past r.0.type r.0.lowest r.0.highest (lent_nodes rs) (suc i * 3 + 2) (i * 3 + 2) (omega arith)) ∙ labels rs i (omega (arith, h))
 
 -- Rows whose links stand lowest feature first are what the table of them states.
-pub table-of-lent : (rs : List (Row Label)) → ((i : ℕ) → i < length rs → linksOf (target (get_or rs i no_row).1) features ≡ (get_or rs i no_row).1) → tableRows (lentNodes rs) (lentRows rs) ≡ rs
-unfolding tableRows
+pub table-of-lent : (rs : List (Row Label)) → ((i : ℕ) → i < length rs → links_of (target (get_or rs i no_row).1) features ≡ (get_or rs i no_row).1) → table_rows (lent_nodes rs) (lent_rows rs) ≡ rs
+unfolding table_rows
 table-of-lent rs tidy =
-    ap (λ (n : ℕ). map {B = Row Label} (λ v. (labelIn (lentNodes rs) v, linksOf (targetIn (lentRows rs) v) features)) (from 0 n)) (ap (λ (n : ℕ). n / 3) (nodes-length rs) ∙ mul-div_cancel (length rs) {n = 3} (omega arith))
-    ∙ listed {X = Row Label} (λ v. (labelIn (lentNodes rs) v, linksOf (targetIn (lentRows rs) v) features)) no_row rs 0 (λ i h.
-    ap₂ {C = Row Label} (λ (l : Label) (ls : List (ℕ × ℕ)). (l, ls)) (ap (labelIn (lentNodes rs)) (zero-add i) ∙ labels rs i h)
-    (linksOf-cong (targetIn (lentRows rs) (0 + i)) (target (get_or rs i no_row).1) (λ f. targets f rs 0 i h) features ∙ tidy i h))
+    ap (λ (n : ℕ). map {B = Row Label} (λ v. (label_in (lent_nodes rs) v, links_of (target_in (lent_rows rs) v) features)) (from 0 n)) (ap (λ (n : ℕ). n / 3) (nodes-length rs) ∙ mul-div_cancel (length rs) {n = 3} (omega arith))
+    ∙ listed {X = Row Label} (λ v. (label_in (lent_nodes rs) v, links_of (target_in (lent_rows rs) v) features)) no_row rs 0 (λ i h.
+    ap₂ {C = Row Label} (λ (l : Label) (ls : List (ℕ × ℕ)). (l, ls)) (ap (label_in (lent_nodes rs)) (zero-add i) ∙ labels rs i h)
+    (links_of-cong (target_in (lent_rows rs) (0 + i)) (target (get_or rs i no_row).1) (λ f. targets f rs 0 i h) features ∙ tidy i h))

@@ -10,7 +10,7 @@ use Rattle.graphs.specs.Rows.{Row}
 use Rattle.graphs.specs.Large.{Ascending}
 use Rattle.lattice.specs.Label.{Label}
 use Rattle.rows.specs.declared.Row as lent
-use Rattle.rows.specs.Rows.{no_row, lentLink, lentFrom, lentRows}
+use Rattle.rows.specs.Rows.{no_row, lent_link, lent_from, lent_rows}
 use Rattle.rows.specs.Faults.{Earlier}
 use Rattle.rows.proofs.Tests.{placed}
 
@@ -27,30 +27,30 @@ sorted-append (x ∷ xs) ys a b across = (
 )
 
 -- the rows of one node are sorted
-links-sorted : (v : ℕ) (ls : List (ℕ × ℕ)) → Ascending ls → Sorted (map (lentLink v) ls)
+links-sorted : (v : ℕ) (ls : List (ℕ × ℕ)) → Ascending ls → Sorted (map (lent_link v) ls)
 links-sorted v [] a = tt
 links-sorted v (l ∷ ls) a = (
   λ s m.
-      let (k, i, e) = Memᴰ.of_map (lentLink v) ls m in
+      let (k, i, e) = Memᴰ.of_map (lent_link v) ls m in
       inr (ap (λ (r : lent.Row). r.parent) e, omega (arith, a.0 k i, ap (λ (r : lent.Row). r.feature) e)),
   links-sorted v ls a.1,
 )
 
-link-parent : (v : ℕ) (ls : List (ℕ × ℕ)) (r : lent.Row) → Memᴰ r (map (lentLink v) ls) → r.parent ≡ v
-link-parent v ls r m = let (k, i, e) = Memᴰ.of_map (lentLink v) ls m in sym (ap (λ (x : lent.Row). x.parent) e)
+link-parent : (v : ℕ) (ls : List (ℕ × ℕ)) (r : lent.Row) → Memᴰ r (map (lent_link v) ls) → r.parent ≡ v
+link-parent v ls r m = let (k, i, e) = Memᴰ.of_map (lent_link v) ls m in sym (ap (λ (x : lent.Row). x.parent) e)
 
 -- the rows of the nodes from v on have parents from v on
-later-parent : (rs : List (Row Label)) (v : ℕ) (r : lent.Row) → Memᴰ r (lentFrom v rs) → v ≤ r.parent
-unfolding lentFrom
+later-parent : (rs : List (Row Label)) (v : ℕ) (r : lent.Row) → Memᴰ r (lent_from v rs) → v ≤ r.parent
+unfolding lent_from
 later-parent [] v r m = absurd (Memᴰ.not-nil m)
 later-parent (x ∷ rs) v r m =
-    ⊎_elim (λ i. omega (arith, link-parent v x.1 r i)) (λ j. omega (arith, later-parent rs (suc v) r j)) (Memᴰ.append_cases (map (lentLink v) x.1) m)
+    ⊎_elim (λ i. omega (arith, link-parent v x.1 r i)) (λ j. omega (arith, later-parent rs (suc v) r j)) (Memᴰ.append_cases (map (lent_link v) x.1) m)
 
-lent-sorted-from : (rs : List (Row Label)) (v : ℕ) → ((r : Row Label) → Memᴰ r rs → Ascending r.1) → Sorted (lentFrom v rs)
-unfolding lentFrom
+lent-sorted-from : (rs : List (Row Label)) (v : ℕ) → ((r : Row Label) → Memᴰ r rs → Ascending r.1) → Sorted (lent_from v rs)
+unfolding lent_from
 lent-sorted-from [] v up = tt
 lent-sorted-from (x ∷ rs) v up =
-    sorted-append (map (lentLink v) x.1) (lentFrom (suc v) rs) (links-sorted v x.1 (up x (Memᴰ.head refl)))
+    sorted-append (map (lent_link v) x.1) (lent_from (suc v) rs) (links-sorted v x.1 (up x (Memᴰ.head refl)))
     (lent-sorted-from rs (suc v) (λ r m. up r (Memᴰ.tail m)))
     (λ r s i j. inl (omega (arith, link-parent v x.1 r i, later-parent rs (suc v) s j)))
 
@@ -61,6 +61,6 @@ sorted-places (r ∷ rs) a zero (suc j) h l = a.0 (get_or rs j no_row) (placed r
 sorted-places (r ∷ rs) a (suc i) (suc j) h l = sorted-places rs a.1 i j (omega arith) (omega arith)
 
 -- Of two rows of a graph whose nodes list their links lowest feature first, the one at the lower place comes earlier.
-pub lent-sorted : (form : List (Row Label)) → ((r : Row Label) → Memᴰ r form → Ascending r.1) → (i j : ℕ) → i < j → j < length (lentRows form) →
-    Earlier (get_or (lentRows form) i no_row) (get_or (lentRows form) j no_row)
-lent-sorted form up = sorted-places (lentRows form) (lent-sorted-from form 0 up)
+pub lent-sorted : (form : List (Row Label)) → ((r : Row Label) → Memᴰ r form → Ascending r.1) → (i j : ℕ) → i < j → j < length (lent_rows form) →
+    Earlier (get_or (lent_rows form) i no_row) (get_or (lent_rows form) j no_row)
+lent-sorted form up = sorted-places (lent_rows form) (lent-sorted-from form 0 up)

@@ -3,7 +3,7 @@
 use Rattle.std.specs.Prelude.{Bool, false, cond, List, ◌≡◌, ℕ, ◌+◌, ◌*◌, ◌<◌, ◌≤◌, eqb, get_or, set}
 use Rattle.std.proofs.Math.Option.{Option, none, some}
 use Rattle.rows.specs.declared.Row.{Row}
-use Rattle.rows.specs.Rows.{targetIn, hasTwice, no_row}
+use Rattle.rows.specs.Rows.{target_in, has_twice, no_row}
 
 -- the number at a place of the table, for the target that rows give it
 abbrev pub place_of : Option ℕ → ℕ
@@ -25,8 +25,8 @@ Places row targets answer after =
 
 -- The table has each row's target at the row's place, and no two rows have one place.
 pub record Placed (rows : List Row) (targets : List ℕ) : Type 0 where
-  pub once : hasTwice rows ≡ false
-  pub told : (p f : ℕ) → p < 255 → f < 64 → get_or targets (p * 64 + f) 0 ≡ place_of (targetIn rows p f)
+  pub once : has_twice rows ≡ false
+  pub told : (p f : ℕ) → p < 255 → f < 64 → get_or targets (p * 64 + f) 0 ≡ place_of (target_in rows p f)
   pub low : (k : ℕ) → get_or targets k 0 ≤ 256
 
 -- The table has a place for each of the first `count` rows.

@@ -3,8 +3,8 @@
 ghost use Rattle.std.specs.Prelude.{◌≡◌, ◌+◌, ◌*◌, ◌≤◌, ◌<◌, length};
 ghost use Rattle.layout.specs.Builder.{stated};
 ghost use Rattle.layout.specs.Layout.{header, longest};
-ghost use Rattle.rows.specs.Rows.{labelIn, nodesIn};
-ghost use Rattle.rows.specs.Filling.{Fillable, Filled, Labelled, RowFilled, placedLinks};
+ghost use Rattle.rows.specs.Rows.{label_in, nodes_in};
+ghost use Rattle.rows.specs.Filling.{Fillable, Filled, Labelled, RowFilled, placed_links};
 
 use crate::placing;
 use layout::Label;
@@ -12,7 +12,7 @@ use layout::Label;
 // The label of node v, which its three bytes state.
 fn label_in(nodes: &[u8], v: usize) -> Label
     requires { v * 3 + 2 < length nodes.now }
-    ensures { stated result ≡ labelIn nodes.now v }
+    ensures { stated result ≡ label_in nodes.now v }
 {
     Label {
         kind: nodes[v * 3],
@@ -45,8 +45,8 @@ fn fill_row<'a>(
     at: usize,
     graph: &mut [u16; layout::LONGEST],
 ) -> usize
-    requires fillable { Fillable nodes.now targets.now × (v < nodesIn nodes.now) }
-    requires v_bound { at + header + length (placedLinks targets.now v) ≤ longest }
+    requires fillable { Fillable nodes.now targets.now × (v < nodes_in nodes.now) }
+    requires v_bound { at + header + length (placed_links targets.now v) ≤ longest }
     requires graph_len { length graph.old ≡ longest }
     ensures { RowFilled nodes.now targets.now v graph.old at graph.new result }
 {

@@ -2,7 +2,7 @@
 // feature: 0 where no row has both, else the row's target plus 1.
 
 ghost use Rattle.std.specs.Prelude.{◌≡◌, true, not, ◌≤◌, take, length};
-ghost use Rattle.rows.specs.Rows.{isKnown, allKnown, hasTwice};
+ghost use Rattle.rows.specs.Rows.{is_known, all_known, has_twice};
 ghost use Rattle.rows.specs.Placing.{Near, AllNear, Empty, Placed, Places};
 
 use crate::Row;
@@ -12,7 +12,7 @@ pub const PLACES: usize = 255 * 64;
 
 // Whether a row's feature is below 64, and its parent and its target are below `nodes`.
 fn is_known(row: Row, nodes: usize) -> bool
-    ensures { result ≡ isKnown nodes row }
+    ensures { result ≡ is_known nodes row }
 {
     if 63 < row.feature {
         return false;
@@ -26,7 +26,7 @@ fn is_known(row: Row, nodes: usize) -> bool
 // Whether no row of the first `count` has a feature above 63 or a node number outside the count (refusal 14).
 pub fn all_known(all: [Row; 2048], count: usize, nodes: usize) -> bool
     requires { count ≤ 2048 }
-    ensures { result ≡ allKnown nodes (take count all) }
+    ensures { result ≡ all_known nodes (take count all) }
 {
     let mut i = 0;
     while i < count {
@@ -56,7 +56,7 @@ fn place(row: Row, targets: &mut [u16; PLACES]) -> bool
 pub fn place_rows(all: [Row; 2048], count: usize, targets: &mut [u16; PLACES]) -> bool
     requires count_bound { (count ≤ 2048) × (length targets.old ≡ 16320) }
     requires all_near { AllNear count all × Empty targets.old }
-    ensures { (result ≡ not (hasTwice (take count all))) × (result ≡ true → Placed (take count all) targets.new) × (length targets.new ≡ 16320) }
+    ensures { (result ≡ not (has_twice (take count all))) × (result ≡ true → Placed (take count all) targets.new) × (length targets.new ≡ 16320) }
 {
     let mut i = 0;
     while i < count {

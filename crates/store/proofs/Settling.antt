@@ -10,13 +10,13 @@ use lib.Seq.{paste, take_at, take-length, length-take-le}
 use Rattle.replies.specs.declared.Reply.{Reply}
 use Rattle.replies.specs.declared.Reply.TheVariants.{Length}
 use Rattle.replies.specs.Reply.{resulting, length_of, Bounded}
-use Rattle.versions.specs.State.{Made, takenBy, taken}
+use Rattle.versions.specs.State.{Made, taken_by, taken}
 use Rattle.contents.specs.Promise.{Among}
 use Rattle.contents.proofs.Room.{blank-room}
 use Rattle.store.specs.Calls.{settled}
 
 pub settle-none : (reply : Reply) (state store : List ℕ) → length_of reply ≡ none → resulting reply store ≡ settled store (taken (resulting reply state))
-settle-none reply state store e = sym (ap (λ (o : Option ℕ). settled store (takenBy o (resulting reply state))) e)
+settle-none reply state store e = sym (ap (λ (o : Option ℕ). settled store (taken_by o (resulting reply state))) e)
 
 pub settle-some : {reply : Reply} (l : ℕ) (state store : List ℕ) {new : List ℕ} → reply ≡ Length l → l ≤ length state →
     new ≡ paste store 0 (take l state) (length (take l state)) → resulting (Length l) new ≡ settled store (taken (resulting reply state))

@@ -7,7 +7,7 @@ use Rattle.replies.specs.declared.Reply.TheVariants.{Length}
 use Rattle.replies.specs.Reply.{Result, resulting, refusing}
 use Rattle.calls.specs.Calls.{checked}
 use Rattle.versions.specs.State.{Made, made, stopped, Programs, held}
-use Rattle.contents.specs.Contents.{onHeld, onPresent, given, putAmong, dropAmong}
+use Rattle.contents.specs.Contents.{on_held, on_present, given, put_among, drop_among}
 
 -- "Put and drop return the used length. Bytes past the used ones may hold anything": they stay. "A put or drop that cannot reach that state
 -- is refused with the first number met on that way, and the buffer is unchanged."
@@ -17,16 +17,16 @@ settled buffer (stopped r) = refusing r buffer
 
 module _ (n : ℕ) (t : List ℕ) where
   abbrev pub in_table : (Programs → Made) → List ℕ → Made
-  in_table next buffer = checked (stopped) (opened n t) (onHeld (held n t buffer) next)
+  in_table next buffer = checked (stopped) (opened n t) (on_held (held n t buffer) next)
 
   -- "Put names a version number from 0 to 15 that is absent"
   unfoldable pub putting : List ℕ → ℕ → List ℕ → Result
-  putting buffer version bytes = settled buffer (in_table (putAmong n t (length buffer) version bytes) buffer)
+  putting buffer version bytes = settled buffer (in_table (put_among n t (length buffer) version bytes) buffer)
 
   -- "drop removes the one named"
   unfoldable pub dropping : List ℕ → ℕ → Result
-  dropping buffer version = settled buffer (in_table (dropAmong n t (length buffer) version) buffer)
+  dropping buffer version = settled buffer (in_table (drop_among n t (length buffer) version) buffer)
 
   -- read: what is lent beside the buffer is the output
   unfoldable pub fetching : List ℕ → ℕ → List ℕ → Result
-  fetching buffer version out = given out (in_table (λ ps. onPresent (get_or ps version none) made) buffer)
+  fetching buffer version out = given out (in_table (λ ps. on_present (get_or ps version none) made) buffer)

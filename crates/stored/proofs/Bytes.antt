@@ -10,11 +10,11 @@ use lib.Dec.{eqb, leb}
 use lib.ListN.{length, take, drop, length-append}
 use lib.Seq.{take-append_seam, drop-append_seam}
 use Rattle.gathering.proofs.Spans.{two-bytes-read}
-use Rattle.versions.specs.State.{twoBytes, measured, takeMeasured, starts_with}
+use Rattle.versions.specs.State.{two_bytes, measured, take_measured, starts_with}
 
 -- A record behind its length is read back.
-pub measured-taken : (bytes rest : List ℕ) → length bytes < 65536 → takeMeasured (measured bytes ++ rest) ≡ some (bytes, rest)
-unfolding takeMeasured measured twoBytes
+pub measured-taken : (bytes rest : List ℕ) → length bytes < 65536 → take_measured (measured bytes ++ rest) ≡ some (bytes, rest)
+unfolding take_measured measured two_bytes
 measured-taken bytes rest h =
     ap (λ (l : ℕ). cond (leb l (length (bytes ++ rest))) (some (take l (bytes ++ rest), drop l (bytes ++ rest))) none) (two-bytes-read (length bytes) h) ∙
     ap (λ b. cond b (some (take (length bytes) (bytes ++ rest), drop (length bytes) (bytes ++ rest))) none)

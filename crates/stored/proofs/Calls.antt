@@ -22,10 +22,10 @@ use Rattle.replies.specs.Reply.{Result, length_of}
 use Rattle.calls.specs.Calls.{checked}
 use Rattle.demands.specs.Demand.{WrittenRecord}
 use Rattle.gathering.proofs.Told.{none-some}
-use Rattle.versions.specs.State.{Made, made, stopped, Programs, noPrograms, emptyState, way, held}
-use Rattle.contents.specs.Contents.{onHeld, onProgram, onAbsent, onPresent, is_none, writtenRecord, given, putAmong, dropAmong}
+use Rattle.versions.specs.State.{Made, made, stopped, Programs, no_programs, empty_state, way, held}
+use Rattle.contents.specs.Contents.{on_held, on_program, on_absent, on_present, is_none, written_record, given, put_among, drop_among}
 use Rattle.store.specs.Calls.{settled, in_table, putting, dropping, fetching}
-use Rattle.stored.specs.Turns.{Call, put, remove, fetch, called, bufferAfter, writtenIn, done, whereGiven, programsAfter}
+use Rattle.stored.specs.Turns.{Call, put, remove, fetch, called, buffer_after, written_in, done, where_given, programs_after}
 use Rattle.stored.specs.Theorem.{Versions, Holds}
 use Rattle.stored.proofs.Records.{program-written}
 use Rattle.stored.proofs.Way.{state-long, state-fits}
@@ -84,24 +84,24 @@ module _ (n : ℕ) (t : List ℕ) where
     -- After the checks of the table and the buffer, a call goes on with the programs.
     past-checks : (next : Programs → Made) → in_table n t next buffer ≡ next ps
     past-checks next =
-        ap₂ (λ (o : Opened) (h : Option Programs). checked stopped o (onHeld h next)) opens (held-complete n t opens buffer ps holds)
+        ap₂ (λ (o : Opened) (h : Option Programs). checked stopped o (on_held h next)) opens (held-complete n t opens buffer ps holds)
 
-    pub putting-is : (version : ℕ) (bytes : List ℕ) → putting n t buffer version bytes ≡ settled buffer (putAmong n t (length buffer) version bytes ps)
+    pub putting-is : (version : ℕ) (bytes : List ℕ) → putting n t buffer version bytes ≡ settled buffer (put_among n t (length buffer) version bytes ps)
     unfolding putting
-    putting-is version bytes = ap (settled buffer) (past-checks (putAmong n t (length buffer) version bytes))
+    putting-is version bytes = ap (settled buffer) (past-checks (put_among n t (length buffer) version bytes))
 
-    pub dropping-is : (version : ℕ) → dropping n t buffer version ≡ settled buffer (dropAmong n t (length buffer) version ps)
+    pub dropping-is : (version : ℕ) → dropping n t buffer version ≡ settled buffer (drop_among n t (length buffer) version ps)
     unfolding dropping
-    dropping-is version = ap (settled buffer) (past-checks (dropAmong n t (length buffer) version))
+    dropping-is version = ap (settled buffer) (past-checks (drop_among n t (length buffer) version))
 
-    pub fetching-is : (version : ℕ) (out : List ℕ) → fetching n t buffer version out ≡ given out (onPresent (get_or ps version none) made)
+    pub fetching-is : (version : ℕ) (out : List ℕ) → fetching n t buffer version out ≡ given out (on_present (get_or ps version none) made)
     unfolding fetching
-    fetching-is version out = ap (given out) (past-checks (λ ps. onPresent (get_or ps version none) made))
+    fetching-is version out = ap (given out) (past-checks (λ ps. on_present (get_or ps version none) made))
 
     -- Once `m` is settled, the buffer has the same length, and holds `qs` where a length is told, else the programs as they were.
     abbrev After : Made → Programs → Type 0
     After m qs =
-        (length (settled buffer m).output ≡ length buffer) × Holds n t (settled buffer m).output (whereGiven (length_of (settled buffer m).reply) ps qs)
+        (length (settled buffer m).output ≡ length buffer) × Holds n t (settled buffer m).output (where_given (length_of (settled buffer m).reply) ps qs)
 
     after-way : (qs : Programs) → Versions n qs → After (way n t (length buffer) qs) qs
     after-way qs versions = go (way n t (length buffer) qs) refl
@@ -109,39 +109,39 @@ module _ (n : ℕ) (t : List ℕ) where
         go : (m : Made) → way n t (length buffer) qs ≡ m → After m qs
         go (made s) e = (over-length buffer ps qs holds versions s e, written_over buffer ps qs holds versions s e)
         go (stopped r) e =
-            (refl, subst (λ (o : Option ℕ). Holds n t buffer (whereGiven o ps qs)) (sym (met-silent ((way-meets n t opens (length buffer) qs versions r).0 e))) holds)
+            (refl, subst (λ (o : Option ℕ). Holds n t buffer (where_given o ps qs)) (sym (met-silent ((way-meets n t opens (length buffer) qs versions r).0 e))) holds)
 
     after-put : (version : ℕ) (bytes : List ℕ) (o : Reading) → reading n bytes ≡ o →
-        After (onProgram o λ p. onAbsent ps version (way n t (length buffer) (set ps version (some p)))) (set ps version (some (writtenIn o)))
+        After (on_program o λ p. on_absent ps version (way n t (length buffer) (set ps version (some p)))) (set ps version (some (written_in o)))
     after-put version bytes (refused fault) e = (refl, holds)
     after-put version bytes (accepted rows) e = go (ltb version 16 && is_none (get_or ps version none))
       where
-        go : (b : Bool) → After (cond b (way n t (length buffer) (set ps version (some (writtenRecord rows)))) (stopped WrongVersion)) (set ps version (some (writtenRecord rows)))
+        go : (b : Bool) → After (cond b (way n t (length buffer) (set ps version (some (written_record rows)))) (stopped WrongVersion)) (set ps version (some (written_record rows)))
         go true =
-            after-way (set ps version (some (writtenRecord rows)))
-            (set-versions n ps version (some (writtenRecord rows)) holds.versions
+            after-way (set ps version (some (written_record rows)))
+            (set-versions n ps version (some (written_record rows)) holds.versions
             (λ q d. subst (WrittenRecord n) (some-injective d) (program-written n t bytes rows e)))
         go false = (refl, holds)
 
-    after-drop : (version : ℕ) (o : Option (List ℕ)) → After (onPresent o λ p. way n t (length buffer) (set ps version none)) (set ps version none)
+    after-drop : (version : ℕ) (o : Option (List ℕ)) → After (on_present o λ p. way n t (length buffer) (set ps version none)) (set ps version none)
     after-drop version none = (refl, holds)
     after-drop version (some p) = after-way (set ps version none) (set-versions n ps version none holds.versions (λ q d. none-some d))
 
-    unchanged : (o : Option ℕ) → whereGiven o ps ps ≡ ps
+    unchanged : (o : Option ℕ) → where_given o ps ps ≡ ps
     unchanged none = refl
     unchanged (some l) = refl
 
     -- After a call the buffer has the same length, and holds the programs that the call makes where the reply is a length, else the programs as
     -- they were.
     pub called-holds : (c : Call) → (length (called n t buffer c).output ≡ length buffer) ×
-        Holds n t (called n t buffer c).output (whereGiven (length_of (called n t buffer c).reply) ps (done n t c ps))
+        Holds n t (called n t buffer c).output (where_given (length_of (called n t buffer c).reply) ps (done n t c ps))
     called-holds (put version bytes) =
         subst (λ (y : Result). (length y.output ≡ length buffer) ×
-        Holds n t y.output (whereGiven (length_of y.reply) ps (set ps version (some (writtenIn (reading n bytes))))))
+        Holds n t y.output (where_given (length_of y.reply) ps (set ps version (some (written_in (reading n bytes))))))
         (sym (putting-is version bytes)) (after-put version bytes (reading n bytes) refl)
     called-holds (remove version) =
         subst (λ (y : Result). (length y.output ≡ length buffer) ×
-        Holds n t y.output (whereGiven (length_of y.reply) ps (set ps version none)))
+        Holds n t y.output (where_given (length_of y.reply) ps (set ps version none)))
         (sym (dropping-is version)) (after-drop version (get_or ps version none))
     called-holds (fetch version out) =
         (refl, subst (Holds n t buffer) (sym (unchanged (length_of (fetching n t buffer version out).reply))) holds)
@@ -153,14 +153,14 @@ module _ (n : ℕ) (t : List ℕ) where
         read (reading n bytes) refl (ap (λ (y : Result). length_of y.reply) (sym (putting-is version bytes)) ∙ e)
       where
         test : (rows : List (Row Label)) → (b : Bool) → ltb version 16 ≡ b → (o : Option (List ℕ)) → get_or ps version none ≡ o →
-            length_of (settled buffer (cond (b && is_none o) (way n t (length buffer) (set ps version (some (writtenRecord rows)))) (stopped WrongVersion))).reply ≡ some l →
+            length_of (settled buffer (cond (b && is_none o) (way n t (length buffer) (set ps version (some (written_record rows)))) (stopped WrongVersion))).reply ≡ some l →
             (version < 16) × (get_or ps version none ≡ none)
         test rows true x none y d = (ltb-true version 16 x, y)
         test rows true x (some p) y d = none-some d
         test rows false x o y d = none-some d
 
         read : (o : Reading) → reading n bytes ≡ o →
-            length_of (settled buffer (onProgram o λ p. onAbsent ps version (way n t (length buffer) (set ps version (some p))))).reply ≡ some l →
+            length_of (settled buffer (on_program o λ p. on_absent ps version (way n t (length buffer) (set ps version (some p))))).reply ≡ some l →
             (version < 16) × (get_or ps version none ≡ none) × ((rows : List (Row Label)) × (reading n bytes ≡ accepted rows))
         read (refused fault) q d = none-some d
         read (accepted rows) q d =
@@ -169,18 +169,18 @@ module _ (n : ℕ) (t : List ℕ) where
 
   -- After any calls in turn the buffer has the same length and holds the programs that remain.
   pub calls-hold : opened n t ≡ Accepted → (cs : List Call) (buffer : List ℕ) (ps : Programs) → Holds n t buffer ps →
-      (length (bufferAfter n t buffer cs) ≡ length buffer) × Holds n t (bufferAfter n t buffer cs) (programsAfter n t buffer ps cs)
-  unfolding bufferAfter programsAfter
+      (length (buffer_after n t buffer cs) ≡ length buffer) × Holds n t (buffer_after n t buffer cs) (programs_after n t buffer ps cs)
+  unfolding buffer_after programs_after
   calls-hold opens [] buffer ps holds = (refl, holds)
   calls-hold opens (c ∷ cs) buffer ps holds =
       let (long, next) = called-holds opens buffer ps holds c in
       let (longer, last) =
-      calls-hold opens cs (called n t buffer c).output (whereGiven (length_of (called n t buffer c).reply) ps (done n t c ps)) next in
+      calls-hold opens cs (called n t buffer c).output (where_given (length_of (called n t buffer c).reply) ps (done n t c ps)) next in
       (longer ∙ long, last)
 
   -- From an empty store on, which is two zero bytes with anything behind them, the buffer holds the programs that were put and not dropped.
   pub store-holds : opened n t ≡ Accepted → (rest : List ℕ) → length rest ≤ 16382 → (cs : List Call) →
-      held n t (bufferAfter n t (emptyState ++ rest) cs) ≡ some (programsAfter n t (emptyState ++ rest) noPrograms cs)
+      held n t (buffer_after n t (empty_state ++ rest) cs) ≡ some (programs_after n t (empty_state ++ rest) no_programs cs)
   store-holds opens rest lent cs =
-      held-complete n t opens (bufferAfter n t (emptyState ++ rest) cs) (programsAfter n t (emptyState ++ rest) noPrograms cs)
-      (calls-hold opens cs (emptyState ++ rest) noPrograms (empty-held n t rest lent)).1
+      held-complete n t opens (buffer_after n t (empty_state ++ rest) cs) (programs_after n t (empty_state ++ rest) no_programs cs)
+      (calls-hold opens cs (empty_state ++ rest) no_programs (empty-held n t rest lent)).1

@@ -27,7 +27,7 @@ use Rattle.calls.specs.Calls.{checked}
 use Rattle.demands.specs.Demand.{WrittenRecord}
 use Rattle.gathering.proofs.Told.{none-some}
 use Rattle.versions.specs.State.{Made, made, stopped, Programs, way, held}
-use Rattle.contents.specs.Contents.{onHeld, onProgram, onAbsent, onPresent, is_none, writtenRecord, given, putAmong, dropAmong}
+use Rattle.contents.specs.Contents.{on_held, on_program, on_absent, on_present, is_none, written_record, given, put_among, drop_among}
 use Rattle.store.specs.Calls.{settled, in_table, putting, dropping, fetching}
 use Rattle.stored.specs.Theorem.{Versions, Holds, HoldsNone, PutChecked, VersionChecked, PutDue, DropDue, ReadDue}
 use Rattle.stored.specs.Theorem as due
@@ -43,9 +43,9 @@ above-absent n ps versions version h = get_or-eq_default ps none (omega (arith, 
 module _ (n : ℕ) (t : List ℕ) where
   -- After a put, and after a drop, there are 16 versions, and each that exists is a written record.
   pub put-versions : (buffer : List ℕ) (version : ℕ) (bytes : List ℕ) (ps : Programs) (rows : List (Row Label)) → PutChecked n t buffer version bytes ps rows →
-      Versions n (set ps version (some (writtenRecord rows)))
+      Versions n (set ps version (some (written_record rows)))
   put-versions buffer version bytes ps rows passes =
-      set-versions n ps version (some (writtenRecord rows)) passes.holds.versions
+      set-versions n ps version (some (written_record rows)) passes.holds.versions
       (λ q d. subst (WrittenRecord n) (some-injective d) (program-written n t bytes rows passes.reads))
 
   pub drop-versions : (buffer : List ℕ) (version : ℕ) (ps : Programs) (p : List ℕ) → VersionChecked n t buffer version ps p → Versions n (set ps version none)
@@ -53,8 +53,8 @@ module _ (n : ℕ) (t : List ℕ) where
 
   module _ (buffer : List ℕ) (version : ℕ) where
     -- What a call goes on with, by the table's check and by what the buffer holds.
-    table-first : (o : Opened) → opened n t ≡ o → (next : Programs → Made) → in_table n t next buffer ≡ checked stopped o (onHeld (held n t buffer) next)
-    table-first o e next = ap (λ (x : Opened). checked stopped x (onHeld (held n t buffer) next)) e
+    table-first : (o : Opened) → opened n t ≡ o → (next : Programs → Made) → in_table n t next buffer ≡ checked stopped o (on_held (held n t buffer) next)
+    table-first o e next = ap (λ (x : Opened). checked stopped x (on_held (held n t buffer) next)) e
 
     none-held : HoldsNone n t buffer → held n t buffer ≡ none
     none-held none-holds = go (held n t buffer) refl
@@ -68,7 +68,7 @@ module _ (n : ℕ) (t : List ℕ) where
 
     stateless : opened n t ≡ Accepted → HoldsNone n t buffer → (next : Programs → Made) → in_table n t next buffer ≡ stopped (Graph Malformed First)
     stateless opens none-holds next =
-        table-first Accepted opens next ∙ ap (λ (h : Option Programs). onHeld h next) (none-held none-holds)
+        table-first Accepted opens next ∙ ap (λ (h : Option Programs). on_held h next) (none-held none-holds)
 
     -- Put.
     module _ (bytes : List ℕ) where
@@ -77,61 +77,61 @@ module _ (n : ℕ) (t : List ℕ) where
       put-due = table (opened n t) refl
         where
           ends : (ps : Programs) (rows : List (Row Label)) → PutChecked n t buffer version bytes ps rows → (m : Made) →
-              way n t (length buffer) (set ps version (some (writtenRecord rows))) ≡ m → PutDue n t buffer version bytes (settled buffer m).reply
+              way n t (length buffer) (set ps version (some (written_record rows))) ≡ m → PutDue n t buffer version bytes (settled buffer m).reply
           ends ps rows passes (made s) e = due.used ps rows s passes e
           ends ps rows passes (stopped r) e =
               due.met ps rows r passes
-              ((way-meets n t passes.opens (length buffer) (set ps version (some (writtenRecord rows))) (put-versions buffer version bytes ps rows passes) r).0 e)
+              ((way-meets n t passes.opens (length buffer) (set ps version (some (written_record rows))) (put-versions buffer version bytes ps rows passes) r).0 e)
 
           test : (ps : Programs) (rows : List (Row Label)) → opened n t ≡ Accepted → Holds n t buffer ps → reading n bytes ≡ accepted rows →
               (b : Bool) → ltb version 16 ≡ b → (o : Option (List ℕ)) → get_or ps version none ≡ o →
               PutDue n t buffer version bytes
-              (settled buffer (cond (b && is_none o) (way n t (length buffer) (set ps version (some (writtenRecord rows)))) (stopped WrongVersion))).reply
+              (settled buffer (cond (b && is_none o) (way n t (length buffer) (set ps version (some (written_record rows)))) (stopped WrongVersion))).reply
           test ps rows opens holds reads false x o y = due.numbered ps rows opens holds reads (inl (omega (arith, ltb-false version 16 x)))
           test ps rows opens holds reads true x (some p) y = due.numbered ps rows opens holds reads (inr (p, y))
           test ps rows opens holds reads true x none y =
               ends ps rows (record { opens = opens; holds = holds; reads = reads; numbered = ltb-true version 16 x; absent = y })
-              (way n t (length buffer) (set ps version (some (writtenRecord rows)))) refl
+              (way n t (length buffer) (set ps version (some (written_record rows)))) refl
 
           read : (ps : Programs) → opened n t ≡ Accepted → Holds n t buffer ps → (o : Reading) → reading n bytes ≡ o →
               PutDue n t buffer version bytes
-              (settled buffer (onProgram o λ p. onAbsent ps version (way n t (length buffer) (set ps version (some p))))).reply
+              (settled buffer (on_program o λ p. on_absent ps version (way n t (length buffer) (set ps version (some p))))).reply
           read ps opens holds (refused fault) e = due.program ps fault opens holds e
           read ps opens holds (accepted rows) e = test ps rows opens holds e (ltb version 16) refl (get_or ps version none) refl
 
           state : opened n t ≡ Accepted → (o : Option Programs) → held n t buffer ≡ o →
-              PutDue n t buffer version bytes (settled buffer (onHeld o (putAmong n t (length buffer) version bytes))).reply
+              PutDue n t buffer version bytes (settled buffer (on_held o (put_among n t (length buffer) version bytes))).reply
           state opens none e = due.no-state opens (held_none opens e)
           state opens (some ps) e = read ps opens (held-sound n t buffer ps e) (reading n bytes) refl
 
           table : (o : Opened) → opened n t ≡ o →
-              PutDue n t buffer version bytes (settled buffer (checked stopped o (onHeld (held n t buffer) (putAmong n t (length buffer) version bytes)))).reply
+              PutDue n t buffer version bytes (settled buffer (checked stopped o (on_held (held n t buffer) (put_among n t (length buffer) version bytes)))).reply
           table (Refused fault) e = due.table fault e
           table Accepted e = state e (held n t buffer) refl
 
       -- A put that passes its checks goes the way of the new programs.
       pub put-goes : (ps : Programs) (rows : List (Row Label)) → PutChecked n t buffer version bytes ps rows →
-          putting n t buffer version bytes ≡ settled buffer (way n t (length buffer) (set ps version (some (writtenRecord rows))))
+          putting n t buffer version bytes ≡ settled buffer (way n t (length buffer) (set ps version (some (written_record rows))))
       put-goes ps rows passes =
           putting-is n t passes.opens buffer ps passes.holds version bytes ∙
           ap (settled buffer)
-          (ap (λ (o : Reading). onProgram o λ p. onAbsent ps version (way n t (length buffer) (set ps version (some p)))) passes.reads ∙
-          ap₂ (λ (b : Bool) (o : Option (List ℕ)). cond (b && is_none o) (way n t (length buffer) (set ps version (some (writtenRecord rows)))) (stopped WrongVersion))
+          (ap (λ (o : Reading). on_program o λ p. on_absent ps version (way n t (length buffer) (set ps version (some p)))) passes.reads ∙
+          ap₂ (λ (b : Bool) (o : Option (List ℕ)). cond (b && is_none o) (way n t (length buffer) (set ps version (some (written_record rows)))) (stopped WrongVersion))
           (lt-ltb version 16 passes.numbered) passes.absent)
 
       put-replies : {r : Reply} → PutDue n t buffer version bytes r → (putting n t buffer version bytes).reply ≡ r
       unfolding putting
       put-replies (due.table fault e) =
-          ap (λ (m : Made). (settled buffer m).reply) (table-first (Refused fault) e (putAmong n t (length buffer) version bytes))
+          ap (λ (m : Made). (settled buffer m).reply) (table-first (Refused fault) e (put_among n t (length buffer) version bytes))
       put-replies (due.no-state opens none-holds) =
-          ap (λ (m : Made). (settled buffer m).reply) (stateless opens none-holds (putAmong n t (length buffer) version bytes))
+          ap (λ (m : Made). (settled buffer m).reply) (stateless opens none-holds (put_among n t (length buffer) version bytes))
       put-replies (due.program ps fault opens holds reads) =
           ap (λ (x : Result). x.reply) (putting-is n t opens buffer ps holds version bytes) ∙
-          ap (λ (o : Reading). (settled buffer (onProgram o λ p. onAbsent ps version (way n t (length buffer) (set ps version (some p))))).reply) reads
+          ap (λ (o : Reading). (settled buffer (on_program o λ p. on_absent ps version (way n t (length buffer) (set ps version (some p))))).reply) reads
       put-replies (due.numbered ps rows opens holds reads wrong) =
           ap (λ (x : Result). x.reply) (putting-is n t opens buffer ps holds version bytes) ∙
-          ap (λ (o : Reading). (settled buffer (onProgram o λ p. onAbsent ps version (way n t (length buffer) (set ps version (some p))))).reply) reads ∙
-          ap (λ (b : Bool). (settled buffer (cond b (way n t (length buffer) (set ps version (some (writtenRecord rows)))) (stopped WrongVersion))).reply)
+          ap (λ (o : Reading). (settled buffer (on_program o λ p. on_absent ps version (way n t (length buffer) (set ps version (some p))))).reply) reads ∙
+          ap (λ (b : Bool). (settled buffer (cond b (way n t (length buffer) (set ps version (some (written_record rows)))) (stopped WrongVersion))).reply)
           (⊎_elim (λ high. ap (λ (b : Bool). b && is_none (get_or ps version none)) (le-ltb version 16 (omega arith)))
           (λ (p, there). go (ltb version 16) (get_or ps version none) p there) wrong)
         where
@@ -142,7 +142,7 @@ module _ (n : ℕ) (t : List ℕ) where
       put-replies (due.met ps rows r passes meets) =
           ap (λ (x : Result). x.reply) (put-goes ps rows passes) ∙
           ap (λ (m : Made). (settled buffer m).reply)
-          ((way-meets n t passes.opens (length buffer) (set ps version (some (writtenRecord rows))) (put-versions buffer version bytes ps rows passes) r).1 meets)
+          ((way-meets n t passes.opens (length buffer) (set ps version (some (written_record rows))) (put-versions buffer version bytes ps rows passes) r).1 meets)
       put-replies (due.used ps rows s passes e) =
           ap (λ (x : Result). x.reply) (put-goes ps rows passes) ∙ ap (λ (m : Made). (settled buffer m).reply) e
 
@@ -166,18 +166,18 @@ module _ (n : ℕ) (t : List ℕ) where
             ((way-meets n t passes.opens (length buffer) (set ps version none) (drop-versions buffer version ps p passes) r).0 e)
 
         test : (ps : Programs) → opened n t ≡ Accepted → Holds n t buffer ps → (o : Option (List ℕ)) → get_or ps version none ≡ o →
-            DropDue n t buffer version (settled buffer (onPresent o λ p. way n t (length buffer) (set ps version none))).reply
+            DropDue n t buffer version (settled buffer (on_present o λ p. way n t (length buffer) (set ps version none))).reply
         test ps opens holds none e = due.numbered ps opens holds (inr e)
         test ps opens holds (some p) e =
             ends ps p (record { opens = opens; holds = holds; present = e }) (way n t (length buffer) (set ps version none)) refl
 
         state : opened n t ≡ Accepted → (o : Option Programs) → held n t buffer ≡ o →
-            DropDue n t buffer version (settled buffer (onHeld o (dropAmong n t (length buffer) version))).reply
+            DropDue n t buffer version (settled buffer (on_held o (drop_among n t (length buffer) version))).reply
         state opens none e = due.no-state opens (held_none opens e)
         state opens (some ps) e = test ps opens (held-sound n t buffer ps e) (get_or ps version none) refl
 
         table : (o : Opened) → opened n t ≡ o →
-            DropDue n t buffer version (settled buffer (checked stopped o (onHeld (held n t buffer) (dropAmong n t (length buffer) version)))).reply
+            DropDue n t buffer version (settled buffer (checked stopped o (on_held (held n t buffer) (drop_among n t (length buffer) version)))).reply
         table (Refused fault) e = due.table fault e
         table Accepted e = state e (held n t buffer) refl
 
@@ -186,17 +186,17 @@ module _ (n : ℕ) (t : List ℕ) where
         dropping n t buffer version ≡ settled buffer (way n t (length buffer) (set ps version none))
     drop-goes ps p passes =
         dropping-is n t passes.opens buffer ps passes.holds version ∙
-        ap (λ (o : Option (List ℕ)). settled buffer (onPresent o λ p. way n t (length buffer) (set ps version none))) passes.present
+        ap (λ (o : Option (List ℕ)). settled buffer (on_present o λ p. way n t (length buffer) (set ps version none))) passes.present
 
     drop-replies : {r : Reply} → DropDue n t buffer version r → (dropping n t buffer version).reply ≡ r
     unfolding dropping
     drop-replies (due.table fault e) =
-        ap (λ (m : Made). (settled buffer m).reply) (table-first (Refused fault) e (dropAmong n t (length buffer) version))
+        ap (λ (m : Made). (settled buffer m).reply) (table-first (Refused fault) e (drop_among n t (length buffer) version))
     drop-replies (due.no-state opens none-holds) =
-        ap (λ (m : Made). (settled buffer m).reply) (stateless opens none-holds (dropAmong n t (length buffer) version))
+        ap (λ (m : Made). (settled buffer m).reply) (stateless opens none-holds (drop_among n t (length buffer) version))
     drop-replies (due.numbered ps opens holds wrong) =
         ap (λ (x : Result). x.reply) (dropping-is n t opens buffer ps holds version) ∙
-        ap (λ (o : Option (List ℕ)). (settled buffer (onPresent o λ p. way n t (length buffer) (set ps version none))).reply) (wrong-absent ps holds wrong)
+        ap (λ (o : Option (List ℕ)). (settled buffer (on_present o λ p. way n t (length buffer) (set ps version none))).reply) (wrong-absent ps holds wrong)
     drop-replies (due.met ps p r passes meets) =
         ap (λ (x : Result). x.reply) (drop-goes ps p passes) ∙
         ap (λ (m : Made). (settled buffer m).reply)
@@ -222,18 +222,18 @@ module _ (n : ℕ) (t : List ℕ) where
           fits ps p passes false e = due.shorter ps p passes (leb-false (length p) (length out) e)
 
           test : (ps : Programs) → opened n t ≡ Accepted → Holds n t buffer ps → (o : Option (List ℕ)) → get_or ps version none ≡ o →
-              ReadDue n t buffer version (length out) (given out (onPresent o made)).reply
+              ReadDue n t buffer version (length out) (given out (on_present o made)).reply
           test ps opens holds none e = due.numbered ps opens holds (inr e)
           test ps opens holds (some p) e =
               fits ps p (record { opens = opens; holds = holds; present = e }) (leb (length p) (length out)) refl
 
           state : opened n t ≡ Accepted → (o : Option Programs) → held n t buffer ≡ o →
-              ReadDue n t buffer version (length out) (given out (onHeld o λ ps. onPresent (get_or ps version none) made)).reply
+              ReadDue n t buffer version (length out) (given out (on_held o λ ps. on_present (get_or ps version none) made)).reply
           state opens none e = due.no-state opens (held_none opens e)
           state opens (some ps) e = test ps opens (held-sound n t buffer ps e) (get_or ps version none) refl
 
           table : (o : Opened) → opened n t ≡ o →
-              ReadDue n t buffer version (length out) (given out (checked stopped o (onHeld (held n t buffer) λ ps. onPresent (get_or ps version none) made))).reply
+              ReadDue n t buffer version (length out) (given out (checked stopped o (on_held (held n t buffer) λ ps. on_present (get_or ps version none) made))).reply
           table (Refused fault) e = due.table fault e
           table Accepted e = state e (held n t buffer) refl
 
@@ -241,17 +241,17 @@ module _ (n : ℕ) (t : List ℕ) where
       pub read_goes : (ps : Programs) (p : List ℕ) → VersionChecked n t buffer version ps p → fetching n t buffer version out ≡ result_of (fitted p out)
       read_goes ps p passes =
           fetching-is n t passes.opens buffer ps passes.holds version out ∙
-          ap (λ (o : Option (List ℕ)). given out (onPresent o made)) passes.present
+          ap (λ (o : Option (List ℕ)). given out (on_present o made)) passes.present
 
       read-replies : {r : Reply} → ReadDue n t buffer version (length out) r → (fetching n t buffer version out).reply ≡ r
       unfolding fetching fitted
       read-replies (due.table fault e) =
-          ap (λ (m : Made). (given out m).reply) (table-first (Refused fault) e (λ ps. onPresent (get_or ps version none) made))
+          ap (λ (m : Made). (given out m).reply) (table-first (Refused fault) e (λ ps. on_present (get_or ps version none) made))
       read-replies (due.no-state opens none-holds) =
-          ap (λ (m : Made). (given out m).reply) (stateless opens none-holds (λ ps. onPresent (get_or ps version none) made))
+          ap (λ (m : Made). (given out m).reply) (stateless opens none-holds (λ ps. on_present (get_or ps version none) made))
       read-replies (due.numbered ps opens holds wrong) =
           ap (λ (x : Result). x.reply) (fetching-is n t opens buffer ps holds version out) ∙
-          ap (λ (o : Option (List ℕ)). (given out (onPresent o made)).reply) (wrong-absent ps holds wrong)
+          ap (λ (o : Option (List ℕ)). (given out (on_present o made)).reply) (wrong-absent ps holds wrong)
       read-replies (due.shorter ps p passes less) =
           ap (λ (x : Result). x.reply) (read_goes ps p passes) ∙ ap (λ (b : Bool). (back_by p b).reply) (lt-leb (length p) (length out) less)
       read-replies (due.fits ps p passes fit) =

@@ -18,14 +18,14 @@ use Rattle.versions.specs.State.{
   Made,
   made,
   stopped,
-  recordIn,
+  record_in,
   Programs,
-  noPrograms,
-  emptyState,
+  no_programs,
+  empty_state,
   combination,
-  wayFrom,
+  way_from,
   way,
-  takeMeasured,
+  take_measured,
   begins,
   restored,
   unpacked,
@@ -36,7 +36,7 @@ use Rattle.stored.proofs.Bytes.{starts-with}
 use Rattle.stored.proofs.Records.{combination-written}
 use Rattle.stored.proofs.Way.{reached-held}
 
-record-made : (m : Made) (p : List ℕ) → recordIn m ≡ some p → m ≡ made p
+record-made : (m : Made) (p : List ℕ) → record_in m ≡ some p → m ≡ made p
 record-made (made b) p e = ap made (some-injective e)
 record-made (stopped r) p e = none-some e
 
@@ -46,7 +46,7 @@ absent-all (suc k) zero = refl
 absent-all (suc k) (suc v) = absent-all k v
 
 -- An empty store has 16 versions, all of them absent.
-empty-versions : (n : ℕ) → Versions n noPrograms
+empty-versions : (n : ℕ) → Versions n no_programs
 empty-versions n = record { sixteen = refl; written = λ v p e. none-some (sym (absent-all 16 v) ∙ e) }
 
 -- There are `count` versions, and each that exists is a written record.
@@ -70,17 +70,17 @@ module _ (n : ℕ) (t : List ℕ) where
     where
       go : ((bytes : List ℕ) (ps : Programs) → restored n t part count (bits / 2) bytes ≡ some ps → Some n count ps) → (b : Bool) →
           cond b
-          (bind (takeMeasured bytes) λ d.
-          bind (recordIn (combination n t d.0 part)) λ p.
+          (bind (take_measured bytes) λ d.
+          bind (record_in (combination n t d.0 part)) λ p.
           map (λ ps. some p ∷ ps) (restored n t part count (bits / 2) d.1))
           (map (λ ps. none ∷ ps) (restored n t part count (bits / 2) bytes)) ≡ some ps → Some n (suc count) ps
       go more true d =
           let (taken, _, on) =
-          (bind-eq-some_iff (takeMeasured bytes) (λ d.
-          bind (recordIn (combination n t d.0 part)) λ p.
+          (bind-eq-some_iff (take_measured bytes) (λ d.
+          bind (record_in (combination n t d.0 part)) λ p.
           map (λ ps. some p ∷ ps) (restored n t part count (bits / 2) d.1))).0 d in
           let (p, is, last) =
-          (bind-eq-some_iff (recordIn (combination n t taken.0 part)) (λ p.
+          (bind-eq-some_iff (record_in (combination n t taken.0 part)) (λ p.
           map (λ ps. some p ∷ ps) (restored n t part count (bits / 2) taken.1))).0 on in
           let (qs, rest, whole) = (map-eq-some_iff (λ ps. some p ∷ ps) (restored n t part count (bits / 2) taken.1)).0 last in
           let one : WrittenRecord n p = combination-written n t taken.0 part p (record-made (combination n t taken.0 part) p is) in
@@ -97,12 +97,12 @@ module _ (n : ℕ) (t : List ℕ) where
   unpacked-versions (low ∷ []) ps e = none-some e
   unpacked-versions (low ∷ high ∷ rest) ps e = go (eqb (low + 256 * high) 0) e
     where
-      go : (b : Bool) → cond b (some noPrograms) (bind (takeMeasured rest) λ part. restored n t part.0 16 (low + 256 * high) part.1) ≡ some ps →
+      go : (b : Bool) → cond b (some no_programs) (bind (take_measured rest) λ part. restored n t part.0 16 (low + 256 * high) part.1) ≡ some ps →
           Versions n ps
       go true d = subst (Versions n) (some-injective d) (empty-versions n)
       go false d =
           let (part, _, on) =
-          (bind-eq-some_iff (takeMeasured rest) (λ part. restored n t part.0 16 (low + 256 * high) part.1)).0 d in
+          (bind-eq-some_iff (take_measured rest) (λ part. restored n t part.0 16 (low + 256 * high) part.1)).0 d in
           let (long, written) = restored-some part.0 16 (low + 256 * high) part.1 ps on in
           record { sixteen = long; written = written }
 
@@ -157,11 +157,11 @@ module _ (n : ℕ) (t : List ℕ) where
         })
 
   -- The way of no programs ends in two zero bytes, whatever the table and the room.
-  pub empty-way : (room : ℕ) → way n t room noPrograms ≡ made emptyState
-  unfolding way wayFrom
+  pub empty-way : (room : ℕ) → way n t room no_programs ≡ made empty_state
+  unfolding way way_from
   empty-way room = refl
 
   -- A buffer that begins with two zero bytes holds no programs.
-  pub empty-held : (rest : List ℕ) → length rest ≤ 16382 → Holds n t (emptyState ++ rest) noPrograms
+  pub empty-held : (rest : List ℕ) → length rest ≤ 16382 → Holds n t (empty_state ++ rest) no_programs
   empty-held rest h =
-      record { versions = empty-versions n; lent = omega arith; state = emptyState; reached = empty-way (length (emptyState ++ rest)); first = refl }
+      record { versions = empty-versions n; lent = omega arith; state = empty_state; reached = empty-way (length (empty_state ++ rest)); first = refl }

@@ -18,10 +18,10 @@ use Rattle.record.specs.Read.{accepted, reading}
 use Rattle.replies.specs.declared.Reply.TheVariants.{Length, NoStoreRoom, WrongVersion}
 use Rattle.replies.specs.Reply.{Result}
 use Rattle.gathering.proofs.Told.{none-some}
-use Rattle.versions.specs.State.{Made, made, stopped, and_then, Programs, emptyState, state_of, differences, within, stored, way}
-use Rattle.contents.specs.Contents.{writtenRecord, given, onPresent}
+use Rattle.versions.specs.State.{Made, made, stopped, and_then, Programs, empty_state, state_of, differences, within, stored, way}
+use Rattle.contents.specs.Contents.{written_record, given, on_present}
 use Rattle.store.specs.Calls.{settled, putting, dropping, fetching}
-use Rattle.stored.specs.Turns.{Call, bufferAfter, writtenIn, programsAfter, putsFrom, Drops, Keeps}
+use Rattle.stored.specs.Turns.{Call, buffer_after, written_in, programs_after, puts_from, Drops, Keeps}
 use Rattle.stored.specs.Theorem.{Holds, Passed, start, absent, steps, PutChecked, VersionChecked, PutDue, DropDue, ReadDue}
 use Rattle.stored.specs.Theorem as due
 use Rattle.stored.proofs.Records.{stopped-made}
@@ -112,7 +112,7 @@ module _ (n : ℕ) (t buffer longer : List ℕ) (ps : Programs) (holds : Holds n
           put-goes n t buffer version bytes qs rows passes ∙ ap (settled buffer) reached in
           let there : putting n t longer version bytes ≡ settled longer (made s) =
           put-goes n t longer version bytes qs rows passes-there ∙
-          ap (settled longer) (way-longer (length buffer) (length longer) long n t (set qs version (some (writtenRecord rows))) s reached) in
+          ap (settled longer) (way-longer (length buffer) (length longer) long n t (set qs version (some (written_record rows))) s reached) in
           (ap (λ (y : Result). y.reply) there, same-used s (putting n t longer version bytes) (putting n t buffer version bytes) there here)
       go m (due.met qs rows _ passes meets) = elim meets [ ]
 
@@ -139,32 +139,32 @@ module _ (n : ℕ) (t buffer longer : List ℕ) (ps : Programs) (holds : Holds n
 -- Calls in turn on a buffer that holds programs.
 module _ (n : ℕ) (t : List ℕ) (opens : opened n t ≡ Accepted) (buffer : List ℕ) (ps : Programs) (holds : Holds n t buffer ps) (cs : List Call) where
   -- The programs after the calls are those that were put and not dropped since, and those that were there before and were not dropped.
-  pub kept-exact : (version : ℕ) (p : List ℕ) → (get_or (programsAfter n t buffer ps cs) version none ≡ some p) ↔
-      (((bytes : List ℕ) × (rows : List (Row Label)) × Keeps n t version bytes buffer cs × (reading n bytes ≡ accepted rows) × (p ≡ writtenRecord rows)) ⊎
+  pub kept-exact : (version : ℕ) (p : List ℕ) → (get_or (programs_after n t buffer ps cs) version none ≡ some p) ↔
+      (((bytes : List ℕ) × (rows : List (Row Label)) × Keeps n t version bytes buffer cs × (reading n bytes ≡ accepted rows) × (p ≡ written_record rows)) ⊎
       ((get_or ps version none ≡ some p) × (Drops n t version buffer cs → ⊥)))
   kept-exact version p = (
     λ e. ⊎_elim
         (λ (bytes, keeps, is). let (rows, reads, at) = kept-program n t opens version bytes cs buffer ps holds keeps in
-        inl (bytes, rows, keeps, reads, is ∙ ap writtenIn reads))
+        inl (bytes, rows, keeps, reads, is ∙ ap written_in reads))
         inr
         (program-kept n t opens version cs buffer ps holds p e),
     ⊎_elim
         (λ (bytes, rows, keeps, reads, is). let (others, again, at) = kept-program n t opens version bytes cs buffer ps holds keeps in
         let one : others ≡ rows = let q : accepted others ≡ accepted rows = sym again ∙ reads in cc in
-        at ∙ ap (λ (r : List (Row Label)). some (writtenRecord r)) one ∙ ap some (sym is))
+        at ∙ ap (λ (r : List (Row Label)). some (written_record r)) one ∙ ap some (sym is))
         (λ (there, kept). kept_on n t opens version cs buffer ps holds p there kept),
   )
 
   -- A version that was there before and was not dropped is read as before.
   pub read_stays : (version : ℕ) (p : List ℕ) → get_or ps version none ≡ some p → (Drops n t version buffer cs → ⊥) → (out : List ℕ) →
-      fetching n t (bufferAfter n t buffer cs) version out ≡ fetching n t buffer version out
+      fetching n t (buffer_after n t buffer cs) version out ≡ fetching n t buffer version out
   read_stays version p there kept out =
-      fetching-is n t opens (bufferAfter n t buffer cs) (programsAfter n t buffer ps cs) (calls-hold n t opens cs buffer ps holds).1 version out ∙
-      ap (λ (o : Option (List ℕ)). given out (onPresent o made)) (kept_on n t opens version cs buffer ps holds p there kept ∙ sym there) ∙
+      fetching-is n t opens (buffer_after n t buffer cs) (programs_after n t buffer ps cs) (calls-hold n t opens cs buffer ps holds).1 version out ∙
+      ap (λ (o : Option (List ℕ)). given out (on_present o made)) (kept_on n t opens version cs buffer ps holds p there kept ∙ sym there) ∙
       sym (fetching-is n t opens buffer ps holds version out)
 
   -- A read gives 20 exactly where the version was not put and kept, and was not there before and kept.
-  pub read-unkept : (version : ℕ) (out : List ℕ) → ((fetching n t (bufferAfter n t buffer cs) version out).reply ≡ WrongVersion) ↔
+  pub read-unkept : (version : ℕ) (out : List ℕ) → ((fetching n t (buffer_after n t buffer cs) version out).reply ≡ WrongVersion) ↔
       (((bytes : List ℕ) → Keeps n t version bytes buffer cs → ⊥) × ((p : List ℕ) → get_or ps version none ≡ some p → (Drops n t version buffer cs → ⊥) → ⊥))
   read-unkept version out = (
     λ e. let gone = absent-now ((read-exact n t after version out WrongVersion).0 e) in (
@@ -176,10 +176,10 @@ module _ (n : ℕ) (t : List ℕ) (opens : opened n t ≡ Accepted) (buffer : Li
   )
     where
       after : List ℕ
-      after = bufferAfter n t buffer cs
+      after = buffer_after n t buffer cs
 
       now : Programs
-      now = programsAfter n t buffer ps cs
+      now = programs_after n t buffer ps cs
 
       after_holds : Holds n t after now
       after_holds = (calls-hold n t opens cs buffer ps holds).1
@@ -197,13 +197,13 @@ module _ (n : ℕ) (t : List ℕ) (opens : opened n t ≡ Accepted) (buffer : Li
   -- The used bytes are those of an empty store of the same length, with anything behind its two bytes, into which the programs were put in
   -- version order.
   pub used-by-puts : (s : List ℕ) ×
-      ((rest : List ℕ) → length (emptyState ++ rest) ≡ length buffer →
-      putsFrom n t (emptyState ++ rest) emptyState 0 (programsAfter n t buffer ps cs) ≡ made s) ×
-      (bufferAfter n t buffer cs ≡ s ++ drop (length s) (bufferAfter n t buffer cs))
+      ((rest : List ℕ) → length (empty_state ++ rest) ≡ length buffer →
+      puts_from n t (empty_state ++ rest) empty_state 0 (programs_after n t buffer ps cs) ≡ made s) ×
+      (buffer_after n t buffer cs ≡ s ++ drop (length s) (buffer_after n t buffer cs))
   used-by-puts =
       let (long, held) = calls-hold n t opens cs buffer ps holds in (
         held.state,
-        λ rest same. way-by-puts n t opens rest (omega (arith, same, holds.lent)) (programsAfter n t buffer ps cs) held.versions ∙
-            ap (λ (k : ℕ). way n t k (programsAfter n t buffer ps cs)) (same ∙ sym long) ∙ held.reached,
+        λ rest same. way-by-puts n t opens rest (omega (arith, same, holds.lent)) (programs_after n t buffer ps cs) held.versions ∙
+            ap (λ (k : ℕ). way n t k (programs_after n t buffer ps cs)) (same ∙ sym long) ∙ held.reached,
         held.first,
       )

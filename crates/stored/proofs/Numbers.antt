@@ -12,7 +12,7 @@ use Rattle.lattice.specs.Label.{Label}
 use Rattle.acceptance.specs.declared.TableFault.{TableFault}
 use Rattle.acceptance.specs.declared.TableFault.TheVariants.{Size, Order, Bounds}
 use Rattle.acceptance.specs.declared.Opened.TheVariants.{Accepted, Refused}
-use Rattle.acceptance.specs.Reply.{tableNumber, opened}
+use Rattle.acceptance.specs.Reply.{table_number, opened}
 use Rattle.record.specs.declared.GraphFault.{GraphFault}
 use Rattle.record.specs.declared.GraphFault.TheVariants.{Malformed}
 use Rattle.record.specs.Read.{refused, accepted, reading}
@@ -23,7 +23,7 @@ use Rattle.replies.specs.Reply.{refusal}
 use Rattle.gathering.proofs.Told.{none-some}
 use Rattle.gathered.proofs.Theorems.{reading-number}
 use Rattle.versions.specs.State.{Programs}
-use Rattle.contents.specs.Contents.{writtenRecord}
+use Rattle.contents.specs.Contents.{written_record}
 use Rattle.store.specs.Calls.{putting, dropping, fetching}
 use Rattle.stored.specs.Theorem.{Holds, HoldsNone, Met, too_large, unwanted, short, PutChecked, VersionChecked, PutDue, DropDue, ReadDue}
 use Rattle.stored.specs.Theorem as due
@@ -35,7 +35,7 @@ pub data OnTheWay : Reply → Type 0 where
   thirteen : OnTheWay NoWantedType
   twenty-one : OnTheWay NoStoreRoom
 
-table-number : (fault : TableFault) (k : ℕ) → some (tableNumber fault) ≡ some k → (1 ≤ k) × (k ≤ 3)
+table-number : (fault : TableFault) (k : ℕ) → some (table_number fault) ≡ some k → (1 ≤ k) × (k ≤ 3)
 table-number Size k e = (omega (arith, some-injective e), omega (arith, some-injective e))
 table-number Order k e = (omega (arith, some-injective e), omega (arith, some-injective e))
 table-number Bounds k e = (omega (arith, some-injective e), omega (arith, some-injective e))
@@ -96,7 +96,7 @@ module _ (n : ℕ) (t buffer : List ℕ) (version : ℕ) where
 
     pub put-met : {r : Reply} → OnTheWay r → ((putting n t buffer version bytes).reply ≡ r) ↔
         ((ps : Programs) × (rows : List (Row Label)) × PutChecked n t buffer version bytes ps rows ×
-        Met n t (length buffer) (set ps version (some (writtenRecord rows))) r)
+        Met n t (length buffer) (set ps version (some (written_record rows))) r)
     put-met {r} number = (
       λ e. go number ((put-exact n t buffer version bytes r).0 e),
       λ (ps, rows, passes, meets). (put-exact n t buffer version bytes r).1 (due.met ps rows r passes meets),
@@ -104,7 +104,7 @@ module _ (n : ℕ) (t buffer : List ℕ) (version : ℕ) where
       where
         go : {r : Reply} → OnTheWay r → PutDue n t buffer version bytes r →
             (ps : Programs) × (rows : List (Row Label)) × PutChecked n t buffer version bytes ps rows ×
-            Met n t (length buffer) (set ps version (some (writtenRecord rows))) r
+            Met n t (length buffer) (set ps version (some (written_record rows))) r
         go eleven (due.met ps rows _ passes meets) = (ps, rows, passes, meets)
         go thirteen (due.met ps rows _ passes meets) = (ps, rows, passes, meets)
         go twenty-one (due.met ps rows _ passes meets) = (ps, rows, passes, meets)

@@ -12,7 +12,7 @@ use lib.ListN.{length, get_or, set, take, drop}
 use Rattle.graphs.specs.Graph.{SameMeaning}
 use Rattle.graphs.specs.Rows.{Row}
 use Rattle.lattice.specs.Label.{Label}
-use Rattle.lattice.specs.Labels.{tableLabels}
+use Rattle.lattice.specs.Labels.{table_labels}
 use Rattle.lattice.specs.Table.{admits}
 use Rattle.acceptance.specs.declared.TableFault.{TableFault}
 use Rattle.acceptance.specs.declared.Opened.TheVariants.{Accepted, Refused}
@@ -20,16 +20,16 @@ use Rattle.acceptance.specs.Reply.{opened}
 use Rattle.encode.specs.Encode.{fitted}
 use Rattle.record.specs.declared.GraphFault.{GraphFault}
 use Rattle.record.specs.declared.GraphFault.TheVariants.{Malformed}
-use Rattle.record.specs.Read.{refused, accepted, reading, graphOfRows}
+use Rattle.record.specs.Read.{refused, accepted, reading, graph_of_rows}
 use Rattle.replies.specs.declared.Side.TheVariants.{First, Second}
 use Rattle.replies.specs.declared.Reply.{Reply}
 use Rattle.replies.specs.declared.Reply.TheVariants.{Length, Table, Graph, NoRoom, TooLarge, NoWantedType, WrongVersion, NoStoreRoom}
 use Rattle.replies.specs.Reply.{refusing, result_of, refusal}
 use Rattle.calls.specs.Calls.{rewriting}
-use Rattle.versions.specs.State.{made, stopped, Programs, noPrograms, emptyState, state_of, differences, way, held}
-use Rattle.contents.specs.Contents.{writtenRecord}
+use Rattle.versions.specs.State.{made, stopped, Programs, no_programs, empty_state, state_of, differences, way, held}
+use Rattle.contents.specs.Contents.{written_record}
 use Rattle.store.specs.Calls.{putting, dropping, fetching}
-use Rattle.stored.specs.Turns.{Call, fetch, called, bufferAfter, replies, programsAfter, putsFrom, Drops, Keeps}
+use Rattle.stored.specs.Turns.{Call, fetch, called, buffer_after, replies, programs_after, puts_from, Drops, Keeps}
 use Rattle.stored.specs.Theorem.{
   Versions,
   Holds,
@@ -59,7 +59,7 @@ use Rattle.stored.proofs.Longer as Longer
 -- "a map of 16 bits .. saying which exist, then the length and record of their common part, then the length and difference of each version that
 -- exists": the used bytes of a buffer that holds programs.
 pub used-bytes : (n : ℕ) (t buffer : List ℕ) (ps : Programs) (holds : Holds n t buffer ps) →
-    ((ps ≡ noPrograms) × (holds.state ≡ emptyState)) ⊎
+    ((ps ≡ no_programs) × (holds.state ≡ empty_state)) ⊎
     ((part : List ℕ) × (ds : List ℕ) × Passed n t (length buffer) ps (some part) holds.state × (differences n t part ps ≡ made ds) ×
     (holds.state ≡ state_of ps part ds))
 used-bytes n t buffer ps holds = Way.state-bytes n t (length buffer) ps holds.versions holds.state holds.reached
@@ -90,7 +90,7 @@ module _ (n : ℕ) (t : List ℕ) (opens : opened n t ≡ Accepted) where
   state-restores = Way.reached-held n t opens
 
   -- "An empty store is two zero bytes", with anything behind them.
-  pub empty-store : (buffer : List ℕ) → (held n t buffer ≡ some noPrograms) ↔ ((rest : List ℕ) × (buffer ≡ emptyState ++ rest) × (length rest ≤ 16382))
+  pub empty-store : (buffer : List ℕ) → (held n t buffer ≡ some no_programs) ↔ ((rest : List ℕ) × (buffer ≡ empty_state ++ rest) × (length rest ≤ 16382))
   empty-store = Theorems.empty-exact n t opens
 
 -- Single calls.
@@ -101,7 +101,7 @@ module _ (n : ℕ) (t buffer : List ℕ) (version : ℕ) where
   -- bytes past the used ones stay.
   pub put-adds : (bytes : List ℕ) (l : ℕ) → (putting n t buffer version bytes).reply ≡ Length l →
       (ps : Programs) × (rows : List (Row Label)) × PutChecked n t buffer version bytes ps rows ×
-      Changed n t buffer l (putting n t buffer version bytes).output (set ps version (some (writtenRecord rows)))
+      Changed n t buffer l (putting n t buffer version bytes).output (set ps version (some (written_record rows)))
   put-adds = Theorems.put-changes n t buffer version
 
   -- "drop removes the one named": a drop that is answered by a length passed its checks, and the buffer then holds the other programs.
@@ -143,56 +143,56 @@ module _ (n : ℕ) (t buffer : List ℕ) (version : ℕ) where
 
 module _ (n : ℕ) (t : List ℕ) (opens : opened n t ≡ Accepted) (rest : List ℕ) (short : length rest ≤ 16382) where
   abbrev start : List ℕ
-  start = emptyState ++ rest
+  start = empty_state ++ rest
 
   -- The way of programs is "an empty store into which the remaining programs were put in version order under their numbers": the puts give the
   -- same used bytes, or the same first number.
-  pub way-by-puts : (ps : Programs) → Versions n ps → putsFrom n t (emptyState ++ rest) emptyState 0 ps ≡ way n t (length (emptyState ++ rest)) ps
+  pub way-by-puts : (ps : Programs) → Versions n ps → puts_from n t (empty_state ++ rest) empty_state 0 ps ≡ way n t (length (empty_state ++ rest)) ps
   way-by-puts = Puts.way-by-puts n t opens rest short
 
   module _ (cs : List Call) where
     -- "after any calls" the buffer holds the remaining programs.
-    pub calls-hold : held n t (bufferAfter n t (emptyState ++ rest) cs) ≡ some (programsAfter n t (emptyState ++ rest) noPrograms cs)
+    pub calls-hold : held n t (buffer_after n t (empty_state ++ rest) cs) ≡ some (programs_after n t (empty_state ++ rest) no_programs cs)
     calls-hold = Calls.store-holds n t opens rest short cs
 
     -- The remaining programs are those that were put and not dropped.
-    pub calls-keep : (version : ℕ) (p : List ℕ) → (get_or (programsAfter n t (emptyState ++ rest) noPrograms cs) version none ≡ some p) ↔
-        ((bytes : List ℕ) × (rows : List (Row Label)) × Keeps n t version bytes (emptyState ++ rest) cs × (reading n bytes ≡ accepted rows) × (p ≡ writtenRecord rows))
+    pub calls-keep : (version : ℕ) (p : List ℕ) → (get_or (programs_after n t (empty_state ++ rest) no_programs cs) version none ≡ some p) ↔
+        ((bytes : List ℕ) × (rows : List (Row Label)) × Keeps n t version bytes (empty_state ++ rest) cs × (reading n bytes ≡ accepted rows) × (p ≡ written_record rows))
     calls-keep = Theorems.put-and-kept n t opens rest short cs
 
     -- "the used bytes are those of an empty store into which the remaining programs were put in version order under their numbers, so dropped
     -- room serves again": this holds for every empty store of that length.
     pub used-by-puts : (s : List ℕ) ×
         ((other : List ℕ) → length other ≡ length rest →
-        putsFrom n t (emptyState ++ other) emptyState 0 (programsAfter n t (emptyState ++ rest) noPrograms cs) ≡ made s) ×
-        (bufferAfter n t (emptyState ++ rest) cs ≡ s ++ drop (length s) (bufferAfter n t (emptyState ++ rest) cs))
+        puts_from n t (empty_state ++ other) empty_state 0 (programs_after n t (empty_state ++ rest) no_programs cs) ≡ made s) ×
+        (buffer_after n t (empty_state ++ rest) cs ≡ s ++ drop (length s) (buffer_after n t (empty_state ++ rest) cs))
     used-by-puts = Theorems.used-by-puts n t opens rest short cs
 
     -- No program opens as another: if no call since the put has dropped the version, a read gives the written record of the program that was put
     -- under the version, with the reply and output of rewriting that program.
-    pub no-program-opens-as-another : (version : ℕ) (bytes : List ℕ) → Keeps n t version bytes (emptyState ++ rest) cs → (out : List ℕ) →
-        fetching n t (bufferAfter n t (emptyState ++ rest) cs) version out ≡ rewriting n t bytes out
-    no-program-opens-as-another = Theorems.read_kept n t opens start noPrograms (Held.empty-held n t rest short) cs
+    pub no-program-opens-as-another : (version : ℕ) (bytes : List ℕ) → Keeps n t version bytes (empty_state ++ rest) cs → (out : List ℕ) →
+        fetching n t (buffer_after n t (empty_state ++ rest) cs) version out ≡ rewriting n t bytes out
+    no-program-opens-as-another = Theorems.read_kept n t opens start no_programs (Held.empty-held n t rest short) cs
 
     -- Two versions are read as equal bytes exactly when the programs that were put mean the same: equal paths, types, ranges and sharing.
-    pub equal-bytes-equal-meaning : (v w : ℕ) (a b : List ℕ) → Keeps n t v a (emptyState ++ rest) cs → Keeps n t w b (emptyState ++ rest) cs →
+    pub equal-bytes-equal-meaning : (v w : ℕ) (a b : List ℕ) → Keeps n t v a (empty_state ++ rest) cs → Keeps n t w b (empty_state ++ rest) cs →
         (s g : List (Row Label)) → reading n a ≡ accepted s → reading n b ≡ accepted g → (out : List ℕ) (l m : ℕ) →
-        (fetching n t (bufferAfter n t (emptyState ++ rest) cs) v out).reply ≡ Length l →
-        (fetching n t (bufferAfter n t (emptyState ++ rest) cs) w out).reply ≡ Length m →
-        SameMeaning (tableLabels n t) (graphOfRows s) (graphOfRows g) ↔
-        (take l (fetching n t (bufferAfter n t (emptyState ++ rest) cs) v out).output ≡ take m (fetching n t (bufferAfter n t (emptyState ++ rest) cs) w out).output)
-    equal-bytes-equal-meaning = Theorems.read-meaning n t opens start noPrograms (Held.empty-held n t rest short) cs
+        (fetching n t (buffer_after n t (empty_state ++ rest) cs) v out).reply ≡ Length l →
+        (fetching n t (buffer_after n t (empty_state ++ rest) cs) w out).reply ≡ Length m →
+        SameMeaning (table_labels n t) (graph_of_rows s) (graph_of_rows g) ↔
+        (take l (fetching n t (buffer_after n t (empty_state ++ rest) cs) v out).output ≡ take m (fetching n t (buffer_after n t (empty_state ++ rest) cs) w out).output)
+    equal-bytes-equal-meaning = Theorems.read-meaning n t opens start no_programs (Held.empty-held n t rest short) cs
 
     -- Two versions are read with equal reply and output, whatever output is lent, exactly when the programs that were put mean the same.
-    pub equal-reads-equal-meaning : (v w : ℕ) (a b : List ℕ) → Keeps n t v a (emptyState ++ rest) cs → Keeps n t w b (emptyState ++ rest) cs →
+    pub equal-reads-equal-meaning : (v w : ℕ) (a b : List ℕ) → Keeps n t v a (empty_state ++ rest) cs → Keeps n t w b (empty_state ++ rest) cs →
         (s g : List (Row Label)) → reading n a ≡ accepted s → reading n b ≡ accepted g →
-        SameMeaning (tableLabels n t) (graphOfRows s) (graphOfRows g) ↔
-        ((out : List ℕ) → fetching n t (bufferAfter n t (emptyState ++ rest) cs) v out ≡ fetching n t (bufferAfter n t (emptyState ++ rest) cs) w out)
-    equal-reads-equal-meaning = Theorems.read_same n t opens start noPrograms (Held.empty-held n t rest short) cs
+        SameMeaning (table_labels n t) (graph_of_rows s) (graph_of_rows g) ↔
+        ((out : List ℕ) → fetching n t (buffer_after n t (empty_state ++ rest) cs) v out ≡ fetching n t (buffer_after n t (empty_state ++ rest) cs) w out)
+    equal-reads-equal-meaning = Theorems.read_same n t opens start no_programs (Held.empty-held n t rest short) cs
 
     -- A read is refused by 20 exactly where no program was put under the version, or the version was dropped since.
-    pub read-not-kept : (version : ℕ) (out : List ℕ) → ((fetching n t (bufferAfter n t (emptyState ++ rest) cs) version out).reply ≡ WrongVersion) ↔
-        ((bytes : List ℕ) → Keeps n t version bytes (emptyState ++ rest) cs → ⊥)
+    pub read-not-kept : (version : ℕ) (out : List ℕ) → ((fetching n t (buffer_after n t (empty_state ++ rest) cs) version out).reply ≡ WrongVersion) ↔
+        ((bytes : List ℕ) → Keeps n t version bytes (empty_state ++ rest) cs → ⊥)
     read-not-kept = Theorems.read-unkept n t opens rest short cs
 
 -- The same theorems on calls in turn from any buffer that holds programs, such as one that was kept since earlier calls: ps are the programs
@@ -200,48 +200,48 @@ module _ (n : ℕ) (t : List ℕ) (opens : opened n t ≡ Accepted) (rest : List
 
 module _ (n : ℕ) (t : List ℕ) (opens : opened n t ≡ Accepted) (buffer : List ℕ) (ps : Programs) (holds : Holds n t buffer ps) (cs : List Call) where
   -- "after any calls" the buffer has the same length and holds the remaining programs.
-  pub calls-hold-from : (length (bufferAfter n t buffer cs) ≡ length buffer) × Holds n t (bufferAfter n t buffer cs) (programsAfter n t buffer ps cs)
+  pub calls-hold-from : (length (buffer_after n t buffer cs) ≡ length buffer) × Holds n t (buffer_after n t buffer cs) (programs_after n t buffer ps cs)
   calls-hold-from = Calls.calls-hold n t opens cs buffer ps holds
 
   -- The remaining programs are those that were put and not dropped since, and those that were there before and were not dropped.
-  pub calls-keep-from : (version : ℕ) (p : List ℕ) → (get_or (programsAfter n t buffer ps cs) version none ≡ some p) ↔
-      (((bytes : List ℕ) × (rows : List (Row Label)) × Keeps n t version bytes buffer cs × (reading n bytes ≡ accepted rows) × (p ≡ writtenRecord rows)) ⊎
+  pub calls-keep-from : (version : ℕ) (p : List ℕ) → (get_or (programs_after n t buffer ps cs) version none ≡ some p) ↔
+      (((bytes : List ℕ) × (rows : List (Row Label)) × Keeps n t version bytes buffer cs × (reading n bytes ≡ accepted rows) × (p ≡ written_record rows)) ⊎
       ((get_or ps version none ≡ some p) × (Drops n t version buffer cs → ⊥)))
   calls-keep-from = Longer.kept-exact n t opens buffer ps holds cs
 
   -- "the used bytes are those of an empty store into which the remaining programs were put in version order under their numbers"
   pub used-by-puts-from : (s : List ℕ) ×
-      ((rest : List ℕ) → length (emptyState ++ rest) ≡ length buffer →
-      putsFrom n t (emptyState ++ rest) emptyState 0 (programsAfter n t buffer ps cs) ≡ made s) ×
-      (bufferAfter n t buffer cs ≡ s ++ drop (length s) (bufferAfter n t buffer cs))
+      ((rest : List ℕ) → length (empty_state ++ rest) ≡ length buffer →
+      puts_from n t (empty_state ++ rest) empty_state 0 (programs_after n t buffer ps cs) ≡ made s) ×
+      (buffer_after n t buffer cs ≡ s ++ drop (length s) (buffer_after n t buffer cs))
   used-by-puts-from = Longer.used-by-puts n t opens buffer ps holds cs
 
   -- No program opens as another: a program that was put and not dropped since is read as rewriting gives it, and a version that was there before
   -- and was not dropped is read as before the calls.
   pub no-program-opens-as-another-from : (version : ℕ) (bytes : List ℕ) → Keeps n t version bytes buffer cs → (out : List ℕ) →
-      fetching n t (bufferAfter n t buffer cs) version out ≡ rewriting n t bytes out
+      fetching n t (buffer_after n t buffer cs) version out ≡ rewriting n t bytes out
   no-program-opens-as-another-from = Theorems.read_kept n t opens buffer ps holds cs
 
   pub reads-stay : (version : ℕ) (p : List ℕ) → get_or ps version none ≡ some p → (Drops n t version buffer cs → ⊥) → (out : List ℕ) →
-      fetching n t (bufferAfter n t buffer cs) version out ≡ fetching n t buffer version out
+      fetching n t (buffer_after n t buffer cs) version out ≡ fetching n t buffer version out
   reads-stay = Longer.read_stays n t opens buffer ps holds cs
 
   -- Two versions are read as equal bytes, and with equal reply and output, exactly when the programs that were put mean the same.
   pub equal-bytes-equal-meaning-from : (v w : ℕ) (a b : List ℕ) → Keeps n t v a buffer cs → Keeps n t w b buffer cs →
       (s g : List (Row Label)) → reading n a ≡ accepted s → reading n b ≡ accepted g → (out : List ℕ) (l m : ℕ) →
-      (fetching n t (bufferAfter n t buffer cs) v out).reply ≡ Length l → (fetching n t (bufferAfter n t buffer cs) w out).reply ≡ Length m →
-      SameMeaning (tableLabels n t) (graphOfRows s) (graphOfRows g) ↔
-      (take l (fetching n t (bufferAfter n t buffer cs) v out).output ≡ take m (fetching n t (bufferAfter n t buffer cs) w out).output)
+      (fetching n t (buffer_after n t buffer cs) v out).reply ≡ Length l → (fetching n t (buffer_after n t buffer cs) w out).reply ≡ Length m →
+      SameMeaning (table_labels n t) (graph_of_rows s) (graph_of_rows g) ↔
+      (take l (fetching n t (buffer_after n t buffer cs) v out).output ≡ take m (fetching n t (buffer_after n t buffer cs) w out).output)
   equal-bytes-equal-meaning-from = Theorems.read-meaning n t opens buffer ps holds cs
 
   pub equal-reads-equal-meaning-from : (v w : ℕ) (a b : List ℕ) → Keeps n t v a buffer cs → Keeps n t w b buffer cs →
       (s g : List (Row Label)) → reading n a ≡ accepted s → reading n b ≡ accepted g →
-      SameMeaning (tableLabels n t) (graphOfRows s) (graphOfRows g) ↔
-      ((out : List ℕ) → fetching n t (bufferAfter n t buffer cs) v out ≡ fetching n t (bufferAfter n t buffer cs) w out)
+      SameMeaning (table_labels n t) (graph_of_rows s) (graph_of_rows g) ↔
+      ((out : List ℕ) → fetching n t (buffer_after n t buffer cs) v out ≡ fetching n t (buffer_after n t buffer cs) w out)
   equal-reads-equal-meaning-from = Theorems.read_same n t opens buffer ps holds cs
 
   -- A read is refused by 20 exactly where the version was not put and kept, and was not there before and kept.
-  pub read-not-kept-from : (version : ℕ) (out : List ℕ) → ((fetching n t (bufferAfter n t buffer cs) version out).reply ≡ WrongVersion) ↔
+  pub read-not-kept-from : (version : ℕ) (out : List ℕ) → ((fetching n t (buffer_after n t buffer cs) version out).reply ≡ WrongVersion) ↔
       (((bytes : List ℕ) → Keeps n t version bytes buffer cs → ⊥) × ((p : List ℕ) → get_or ps version none ≡ some p → (Drops n t version buffer cs → ⊥) → ⊥))
   read-not-kept-from = Longer.read-unkept n t opens buffer ps holds cs
 
@@ -289,7 +289,7 @@ module _ (n : ℕ) (t : List ℕ) (opens : opened n t ≡ Accepted) (buffer othe
   same_read = Theorems.read_alike n t opens buffer other alike
 
   -- Any calls in turn give both buffers the same replies and leave them the same used bytes.
-  pub same-calls : (cs : List Call) → (replies n t other cs ≡ replies n t buffer cs) × Alike n t (bufferAfter n t buffer cs) (bufferAfter n t other cs)
+  pub same-calls : (cs : List Call) → (replies n t other cs ≡ replies n t buffer cs) × Alike n t (buffer_after n t buffer cs) (buffer_after n t other cs)
   same-calls cs = Theorems.calls-alike n t opens cs buffer other alike
 
 -- Refusals.
@@ -368,17 +368,17 @@ module _ (n : ℕ) (t buffer : List ℕ) (version : ℕ) where
   -- where a node of one of the step's programs has no wanted type, 21 where the step's state has more bytes than the buffer.
   pub put-too-large : (bytes : List ℕ) → ((putting n t buffer version bytes).reply ≡ TooLarge) ↔
       ((ps : Programs) × (rows : List (Row Label)) × PutChecked n t buffer version bytes ps rows ×
-      Met n t (length buffer) (set ps version (some (writtenRecord rows))) TooLarge)
+      Met n t (length buffer) (set ps version (some (written_record rows))) TooLarge)
   put-too-large bytes = Numbers.put-met n t buffer version bytes Numbers.eleven
 
   pub put-unwanted : (bytes : List ℕ) → ((putting n t buffer version bytes).reply ≡ NoWantedType) ↔
       ((ps : Programs) × (rows : List (Row Label)) × PutChecked n t buffer version bytes ps rows ×
-      Met n t (length buffer) (set ps version (some (writtenRecord rows))) NoWantedType)
+      Met n t (length buffer) (set ps version (some (written_record rows))) NoWantedType)
   put-unwanted bytes = Numbers.put-met n t buffer version bytes Numbers.thirteen
 
   pub put-no-room : (bytes : List ℕ) → ((putting n t buffer version bytes).reply ≡ NoStoreRoom) ↔
       ((ps : Programs) × (rows : List (Row Label)) × PutChecked n t buffer version bytes ps rows ×
-      Met n t (length buffer) (set ps version (some (writtenRecord rows))) NoStoreRoom)
+      Met n t (length buffer) (set ps version (some (written_record rows))) NoStoreRoom)
   put-no-room bytes = Numbers.put-met n t buffer version bytes Numbers.twenty-one
 
   pub drop-too-large : ((dropping n t buffer version).reply ≡ TooLarge) ↔

@@ -13,7 +13,7 @@ use Rattle.acceptance.specs.declared.Opened.TheVariants.{Accepted}
 use Rattle.acceptance.specs.Reply.{opened}
 use Rattle.encoder.specs.Encode.{encoded}
 use Rattle.encode.specs.Encode.{fitted}
-use Rattle.record.specs.Read.{reading, accepted, graphOfRows}
+use Rattle.record.specs.Read.{reading, accepted, graph_of_rows}
 use Rattle.record.proofs.Theorems.{accepted-fits, written-accepted}
 use Rattle.difference.specs.Difference.{numbered}
 use Rattle.replies.specs.declared.Reply.{Reply}
@@ -23,9 +23,9 @@ use Rattle.calls.specs.Calls.{generalizing, unifying, differing}
 use Rattle.demands.specs.Demand.{WrittenRecord, Leaves}
 use Rattle.demands.proofs.Demands.{generalizing-leaves, unifying-leaves, differing-leaves, difference, written-own-bytes}
 use Rattle.gathering.proofs.Told.{none-some, length-told}
-use Rattle.gathered.specs.Calls.{taken as gatheredTaken, takenBy as gatheredBy}
+use Rattle.gathered.specs.Calls.{taken as gatheredTaken, taken_by as gatheredBy}
 use Rattle.gathered.proofs.Records.{length-blank, written-short, taken-fitted as gathered-fitted}
-use Rattle.versions.specs.State.{made, stopped, takenBy, taken, blank, commonPart, combination, differenceOf}
+use Rattle.versions.specs.State.{made, stopped, taken_by, taken, blank, common_part, combination, difference_of}
 
 pub made-injective : {a b : List ℕ} → made a ≡ made b → a ≡ b
 made-injective e = cc
@@ -37,7 +37,7 @@ stopped-made e = let z : ◌≡◌ {A = ℕ} 0 1 = cc in absurd (omega arith)
 pub taken_made : (r : Result) (b : List ℕ) → taken r ≡ made b → (l : ℕ) × (r.reply ≡ Length l) × (take l r.output ≡ b)
 taken_made r b e = go (length_of r.reply) refl e
   where
-    go : (o : Option ℕ) → length_of r.reply ≡ o → takenBy o r ≡ made b → (l : ℕ) × (r.reply ≡ Length l) × (take l r.output ≡ b)
+    go : (o : Option ℕ) → length_of r.reply ≡ o → taken_by o r ≡ made b → (l : ℕ) × (r.reply ≡ Length l) × (take l r.output ≡ b)
     go none q d = stopped-made d
     go (some l) q d = (l, length-told r.reply l q, made-injective d)
 
@@ -50,7 +50,7 @@ taken-written n out r b leaves e =
 taken-some : (r : Result) (p : List ℕ) → gatheredTaken r ≡ some p → taken r ≡ made p
 taken-some r p e = go (length_of r.reply) refl e
   where
-    go : (o : Option ℕ) → length_of r.reply ≡ o → gatheredBy o r ≡ some p → takenBy o r ≡ made p
+    go : (o : Option ℕ) → length_of r.reply ≡ o → gatheredBy o r ≡ some p → taken_by o r ≡ made p
     go none q d = none-some d
     go (some l) q d = let i : take l r.output ≡ p = cc in ap made i
 
@@ -60,33 +60,33 @@ taken-fitted p out h = taken-some (result_of (fitted p out)) p (gathered-fitted 
 
 -- The written record of an accepted program is a `WrittenRecord`.
 pub program-written : (n : ℕ) (t bytes : List ℕ) (rows : List (Row Label)) → reading n bytes ≡ accepted rows →
-    WrittenRecord n (encoded (numbered (canonical eqb (graphOfRows rows))))
+    WrittenRecord n (encoded (numbered (canonical eqb (graph_of_rows rows))))
 program-written n t bytes rows reads = go (accepted-fits n bytes rows reads)
   where
-    go : (form : List (Row Label)) × (canonical eqb (graphOfRows rows) ≡ written form) →
-        WrittenRecord n (encoded (numbered (canonical eqb (graphOfRows rows))))
+    go : (form : List (Row Label)) × (canonical eqb (graph_of_rows rows) ≡ written form) →
+        WrittenRecord n (encoded (numbered (canonical eqb (graph_of_rows rows))))
     go (form, e) =
         let (read, own, _) = written-accepted n t bytes rows reads form e in
         subst (λ c. WrittenRecord n (encoded (numbered c))) (sym e)
         (record { form = form; reads = read; own = own; bytes-are = refl })
 
 module _ (n : ℕ) (t a b c : List ℕ) where
-  pub common-written : commonPart n t a b ≡ made c → WrittenRecord n c
-  unfolding commonPart
+  pub common-written : common_part n t a b ≡ made c → WrittenRecord n c
+  unfolding common_part
   common-written e = taken-written n blank (generalizing n t a b blank) c (generalizing-leaves n t blank a b) e
 
   pub combination-written : combination n t a b ≡ made c → WrittenRecord n c
   unfolding combination
   combination-written e = taken-written n blank (unifying n t a b blank) c (unifying-leaves n t blank a b) e
 
-  pub difference-written : differenceOf n t a b ≡ made c → WrittenRecord n c
-  unfolding differenceOf
+  pub difference-written : difference_of n t a b ≡ made c → WrittenRecord n c
+  unfolding difference_of
   difference-written e = taken-written n blank (differing n t a b blank) c (differing-leaves n t blank a b) e
 
 -- A difference that is made, combined with the common part, gives the program.
 pub difference-restored : (n : ℕ) (t part p d : List ℕ) → opened n t ≡ Accepted → WrittenRecord n part → WrittenRecord n p →
-    differenceOf n t part p ≡ made d → combination n t d part ≡ made p
-unfolding differenceOf combination
+    difference_of n t part p ≡ made d → combination n t d part ≡ made p
+unfolding difference_of combination
 difference-restored n t part p d opens one other e =
     let (l, q, is) = taken_made (differing n t part p blank) d e in
     let told = difference n t part p one.form other.form (record { opens = opens; first = one.reads; second = other.reads }) blank l q in

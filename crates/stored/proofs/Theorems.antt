@@ -14,14 +14,14 @@ use Rattle.graphs.specs.Rows.{Row}
 use Rattle.graphs.specs.Number.{Canonical, canonical, written}
 use Rattle.graphs.proofs.Walk.{some-injective}
 use Rattle.lattice.specs.Label.{Label}
-use Rattle.lattice.specs.Labels.{tableLabels}
+use Rattle.lattice.specs.Labels.{table_labels}
 use Rattle.lattice.specs.Table.{admits}
 use Rattle.acceptance.specs.declared.Opened.TheVariants.{Accepted}
 use Rattle.acceptance.specs.Reply.{opened}
 use Rattle.encoder.specs.Encode.{encoded}
 use Rattle.encode.specs.declared.Written.TheVariants as outcome
-use Rattle.encode.specs.Encode.{fitted, yielding, writtenOut}
-use Rattle.record.specs.Read.{Reading, refused, accepted, reading, graphOfRows}
+use Rattle.encode.specs.Encode.{fitted, yielding, written_out}
+use Rattle.record.specs.Read.{Reading, refused, accepted, reading, graph_of_rows}
 use Rattle.record.proofs.Theorems.{accepted-fits}
 use Rattle.difference.specs.Difference.{numbered}
 use Rattle.replies.specs.declared.Reply.{Reply}
@@ -32,10 +32,10 @@ use Rattle.demands.specs.Demand.{WrittenRecord}
 use Rattle.demands.proofs.Results.{rewriting-is}
 use Rattle.demands.proofs.Demands.{meaning-bytes, meaning-rewriting}
 use Rattle.gathering.proofs.Told.{none-some}
-use Rattle.versions.specs.State.{Made, made, stopped, Programs, noPrograms, emptyState, way, held}
-use Rattle.contents.specs.Contents.{onProgram, onAbsent, onPresent, is_none, writtenRecord, given, putAmong, dropAmong}
+use Rattle.versions.specs.State.{Made, made, stopped, Programs, no_programs, empty_state, way, held}
+use Rattle.contents.specs.Contents.{on_program, on_absent, on_present, is_none, written_record, given, put_among, drop_among}
 use Rattle.store.specs.Calls.{settled, in_table, putting, dropping, fetching}
-use Rattle.stored.specs.Turns.{Call, put, remove, fetch, called, bufferAfter, replies, writtenIn, programsAfter, putsFrom, Keeps}
+use Rattle.stored.specs.Turns.{Call, put, remove, fetch, called, buffer_after, replies, written_in, programs_after, puts_from, Keeps}
 use Rattle.stored.specs.Theorem.{Versions, Holds, HoldsNone, Changed, Alike, PutChecked, VersionChecked, PutDue, DropDue, ReadDue}
 use Rattle.stored.specs.Theorem as due
 use Rattle.stored.proofs.Records.{made-injective, stopped-made, program-written}
@@ -49,15 +49,15 @@ use Rattle.stored.proofs.Kept.{gone, kept-program, program-kept}
 
 -- The record that is read back is what rewriting the program gives.
 written-record : (n : ℕ) (t bytes : List ℕ) (rows : List (Row Label)) → opened n t ≡ Accepted → reading n bytes ≡ accepted rows → (out : List ℕ) →
-    rewriting n t bytes out ≡ result_of (fitted (writtenRecord rows) out)
-unfolding writtenOut
+    rewriting n t bytes out ≡ result_of (fitted (written_record rows) out)
+unfolding written_out
 written-record n t bytes rows opens reads out =
     rewriting-is n t bytes rows opens reads out ∙ go (accepted-fits n bytes rows reads)
   where
-    go : (form : List (Row Label)) × (canonical eqb (graphOfRows rows) ≡ written form) →
-        result_of (writtenOut (canonical eqb (graphOfRows rows)) out) ≡ result_of (fitted (encoded (numbered (canonical eqb (graphOfRows rows)))) out)
+    go : (form : List (Row Label)) × (canonical eqb (graph_of_rows rows) ≡ written form) →
+        result_of (written_out (canonical eqb (graph_of_rows rows)) out) ≡ result_of (fitted (encoded (numbered (canonical eqb (graph_of_rows rows)))) out)
     go (form, e) =
-        ap (λ (c : Canonical Label). result_of (writtenOut c out)) e ∙
+        ap (λ (c : Canonical Label). result_of (written_out c out)) e ∙
         ap (λ (c : Canonical Label). result_of (fitted (encoded (numbered c)) out)) (sym e)
 
 -- A refused call leaves every byte as it was, whatever is handed in.
@@ -79,15 +79,15 @@ given-refused out (stopped r) k e = refl
 module _ (n : ℕ) (t buffer : List ℕ) (version : ℕ) (k : ℕ) where
   pub put_refused : (bytes : List ℕ) → refusal (putting n t buffer version bytes).reply ≡ some k → (putting n t buffer version bytes).output ≡ buffer
   unfolding putting
-  put_refused bytes = settled-refused buffer (in_table n t (putAmong n t (length buffer) version bytes) buffer) k
+  put_refused bytes = settled-refused buffer (in_table n t (put_among n t (length buffer) version bytes) buffer) k
 
   pub drop-refused : refusal (dropping n t buffer version).reply ≡ some k → (dropping n t buffer version).output ≡ buffer
   unfolding dropping
-  drop-refused = settled-refused buffer (in_table n t (dropAmong n t (length buffer) version) buffer) k
+  drop-refused = settled-refused buffer (in_table n t (drop_among n t (length buffer) version) buffer) k
 
   pub read-refused : (out : List ℕ) → refusal (fetching n t buffer version out).reply ≡ some k → (fetching n t buffer version out).output ≡ out
   unfolding fetching
-  read-refused out = given-refused out (in_table n t (λ ps. onPresent (get_or ps version none) made) buffer) k
+  read-refused out = given-refused out (in_table n t (λ ps. on_present (get_or ps version none) made) buffer) k
 
 module _ (n : ℕ) (t : List ℕ) where
   -- A buffer above 16,384 bytes holds no programs, nor does one below 2.
@@ -118,19 +118,19 @@ module _ (n : ℕ) (t : List ℕ) where
   -- What a put that is answered by a length leaves.
   pub put-changes : (buffer : List ℕ) (version : ℕ) (bytes : List ℕ) (l : ℕ) → (putting n t buffer version bytes).reply ≡ Length l →
       (ps : Programs) × (rows : List (Row Label)) × PutChecked n t buffer version bytes ps rows ×
-      Changed n t buffer l (putting n t buffer version bytes).output (set ps version (some (writtenRecord rows)))
+      Changed n t buffer l (putting n t buffer version bytes).output (set ps version (some (written_record rows)))
   put-changes buffer version bytes l e = go l ((put-exact n t buffer version bytes (Length l)).0 e)
     where
       go : (l : ℕ) → PutDue n t buffer version bytes (Length l) →
           (ps : Programs) × (rows : List (Row Label)) × PutChecked n t buffer version bytes ps rows ×
-          Changed n t buffer l (putting n t buffer version bytes).output (set ps version (some (writtenRecord rows)))
+          Changed n t buffer l (putting n t buffer version bytes).output (set ps version (some (written_record rows)))
       go _ (due.used ps rows s passes reached) = (
         ps,
         rows,
         passes,
-        subst (λ (x : Result). Changed n t buffer (length s) x.output (set ps version (some (writtenRecord rows))))
+        subst (λ (x : Result). Changed n t buffer (length s) x.output (set ps version (some (written_record rows))))
             (sym (put-goes n t buffer version bytes ps rows passes ∙ ap (settled buffer) reached))
-            (changed-over buffer ps (set ps version (some (writtenRecord rows))) passes.holds (put-versions n t buffer version bytes ps rows passes) s reached),
+            (changed-over buffer ps (set ps version (some (written_record rows))) passes.holds (put-versions n t buffer version bytes ps rows passes) s reached),
       )
       go m (due.met ps rows _ passes meets) = elim meets [ ]
 
@@ -158,10 +158,10 @@ module _ (n : ℕ) (t : List ℕ) where
       fetching n t (putting n t buffer version bytes).output version out ≡ rewriting n t bytes out
   read-put buffer version bytes l e out =
       let (ps, rows, passes, changed) = put-changes buffer version bytes l e in
-      read_goes n t (putting n t buffer version bytes).output version out (set ps version (some (writtenRecord rows))) (writtenRecord rows) (record {
+      read_goes n t (putting n t buffer version bytes).output version out (set ps version (some (written_record rows))) (written_record rows) (record {
         opens = passes.opens;
         holds = changed.holds;
-        present = get_or-set_same ps version (some (writtenRecord rows)) none (omega (arith, passes.holds.versions.sixteen, passes.numbered));
+        present = get_or-set_same ps version (some (written_record rows)) none (omega (arith, passes.holds.versions.sixteen, passes.numbered));
       }) ∙
       sym (written-record n t bytes rows passes.opens passes.reads out)
 
@@ -170,8 +170,8 @@ module _ (n : ℕ) (t : List ℕ) where
       (other : ℕ) → other ≢ version → (out : List ℕ) → fetching n t (putting n t buffer version bytes).output other out ≡ fetching n t buffer other out
   put-others buffer version bytes l e other apart out =
       let (ps, rows, passes, changed) = put-changes buffer version bytes l e in
-      fetching-is n t passes.opens (putting n t buffer version bytes).output (set ps version (some (writtenRecord rows))) changed.holds other out ∙
-      ap (λ (o : Option (List ℕ)). given out (onPresent o made)) (get_or-set_other ps version other (some (writtenRecord rows)) none apart) ∙
+      fetching-is n t passes.opens (putting n t buffer version bytes).output (set ps version (some (written_record rows))) changed.holds other out ∙
+      ap (λ (o : Option (List ℕ)). given out (on_present o made)) (get_or-set_other ps version other (some (written_record rows)) none apart) ∙
       sym (fetching-is n t passes.opens buffer ps passes.holds other out)
 
   -- Straight after a drop, a read of the version gives 20, and the other versions are read as before the drop.
@@ -180,14 +180,14 @@ module _ (n : ℕ) (t : List ℕ) where
   drop-removes buffer version l e out =
       let (ps, p, passes, changed) = drop-changes buffer version l e in
       fetching-is n t passes.opens (dropping n t buffer version).output (set ps version none) changed.holds version out ∙
-      ap (λ (o : Option (List ℕ)). given out (onPresent o made)) (gone ps version)
+      ap (λ (o : Option (List ℕ)). given out (on_present o made)) (gone ps version)
 
   pub drop-others : (buffer : List ℕ) (version : ℕ) (l : ℕ) → (dropping n t buffer version).reply ≡ Length l →
       (other : ℕ) → other ≢ version → (out : List ℕ) → fetching n t (dropping n t buffer version).output other out ≡ fetching n t buffer other out
   drop-others buffer version l e other apart out =
       let (ps, p, passes, changed) = drop-changes buffer version l e in
       fetching-is n t passes.opens (dropping n t buffer version).output (set ps version none) changed.holds other out ∙
-      ap (λ (o : Option (List ℕ)). given out (onPresent o made)) (get_or-set_other ps version other none none apart) ∙
+      ap (λ (o : Option (List ℕ)). given out (on_present o made)) (get_or-set_other ps version other none none apart) ∙
       sym (fetching-is n t passes.opens buffer ps passes.holds other out)
 
   -- Over a table that admits differences, 13 is never given.
@@ -197,7 +197,7 @@ module _ (n : ℕ) (t : List ℕ) where
       where
         go : PutDue n t buffer version bytes NoWantedType → ⊥
         go (due.met ps rows _ passes meets) =
-            never_met n t passes.opens (length buffer) (set ps version (some (writtenRecord rows))) (put-versions n t buffer version bytes ps rows passes) differ meets
+            never_met n t passes.opens (length buffer) (set ps version (some (written_record rows))) (put-versions n t buffer version bytes ps rows passes) differ meets
 
     pub drop-wanted : (dropping n t buffer version).reply ≡ NoWantedType → ⊥
     drop-wanted e = go ((drop_exact n t buffer version NoWantedType).0 e)
@@ -213,40 +213,40 @@ module _ (n : ℕ) (t : List ℕ) where
         some-injective (sym (held-complete n t opens buffer ps one) ∙ held-complete n t opens buffer qs other)
 
     -- An empty store is two zero bytes with anything behind them.
-    pub empty-exact : (buffer : List ℕ) → (held n t buffer ≡ some noPrograms) ↔ ((rest : List ℕ) × (buffer ≡ emptyState ++ rest) × (length rest ≤ 16382))
+    pub empty-exact : (buffer : List ℕ) → (held n t buffer ≡ some no_programs) ↔ ((rest : List ℕ) × (buffer ≡ empty_state ++ rest) × (length rest ≤ 16382))
     empty-exact buffer = (
-      λ e. let holds = held-sound n t buffer noPrograms e in
-          let is : holds.state ≡ emptyState = state-is buffer noPrograms holds (length buffer) refl emptyState (empty-way n t (length buffer)) in
-          let whole : buffer ≡ emptyState ++ drop 2 buffer =
+      λ e. let holds = held-sound n t buffer no_programs e in
+          let is : holds.state ≡ empty_state = state-is buffer no_programs holds (length buffer) refl empty_state (empty-way n t (length buffer)) in
+          let whole : buffer ≡ empty_state ++ drop 2 buffer =
           holds.first ∙ ap (λ (s : List ℕ). s ++ drop (length s) buffer) is in
           (drop 2 buffer, whole, omega (arith, ap length whole, holds.lent)),
-      λ (rest, is, short). ap (held n t) is ∙ held-complete n t opens (emptyState ++ rest) noPrograms (empty-held n t rest short),
+      λ (rest, is, short). ap (held n t) is ∙ held-complete n t opens (empty_state ++ rest) no_programs (empty-held n t rest short),
     )
 
     -- What is read after a put and other calls.
     module _ (start : List ℕ) (ps : Programs) (begins : Holds n t start ps) (cs : List Call) where
       abbrev now : List ℕ
-      now = bufferAfter n t start cs
+      now = buffer_after n t start cs
 
       abbrev programs : Programs
-      programs = programsAfter n t start ps cs
+      programs = programs_after n t start ps cs
 
       now-holds : Holds n t now programs
       now-holds = (calls-hold n t opens cs start ps begins).1
 
       -- A program that was put under a version and not dropped is read as rewriting gives it.
       pub read_kept : (version : ℕ) (bytes : List ℕ) → Keeps n t version bytes start cs → (out : List ℕ) →
-          fetching n t (bufferAfter n t start cs) version out ≡ rewriting n t bytes out
+          fetching n t (buffer_after n t start cs) version out ≡ rewriting n t bytes out
       read_kept version bytes keeps out =
           let (rows, reads, at) = kept-program n t opens version bytes cs start ps begins keeps in
-          read_goes n t now version out programs (writtenRecord rows) (record { opens = opens; holds = now-holds; present = at }) ∙
+          read_goes n t now version out programs (written_record rows) (record { opens = opens; holds = now-holds; present = at }) ∙
           sym (written-record n t bytes rows opens reads out)
 
       -- Two versions are read with equal reply and output, whatever output is lent, exactly when the programs that were put mean the same.
       pub read_same : (v w : ℕ) (a b : List ℕ) → Keeps n t v a start cs → Keeps n t w b start cs →
           (s g : List (Row Label)) → reading n a ≡ accepted s → reading n b ≡ accepted g →
-          SameMeaning (tableLabels n t) (graphOfRows s) (graphOfRows g) ↔
-          ((out : List ℕ) → fetching n t (bufferAfter n t start cs) v out ≡ fetching n t (bufferAfter n t start cs) w out)
+          SameMeaning (table_labels n t) (graph_of_rows s) (graph_of_rows g) ↔
+          ((out : List ℕ) → fetching n t (buffer_after n t start cs) v out ≡ fetching n t (buffer_after n t start cs) w out)
       read_same v w a b one other s g first second =
           let (there, back) = meaning-rewriting n t a b s g (record { opens = opens; first = first; second = second }) in (
             λ same out. read_kept v a one out ∙ there same out ∙ sym (read_kept w b other out),
@@ -256,9 +256,9 @@ module _ (n : ℕ) (t : List ℕ) where
       -- Two versions are read as equal bytes exactly when the programs that were put mean the same.
       pub read-meaning : (v w : ℕ) (a b : List ℕ) → Keeps n t v a start cs → Keeps n t w b start cs →
           (s g : List (Row Label)) → reading n a ≡ accepted s → reading n b ≡ accepted g → (out : List ℕ) (l m : ℕ) →
-          (fetching n t (bufferAfter n t start cs) v out).reply ≡ Length l → (fetching n t (bufferAfter n t start cs) w out).reply ≡ Length m →
-          SameMeaning (tableLabels n t) (graphOfRows s) (graphOfRows g) ↔
-          (take l (fetching n t (bufferAfter n t start cs) v out).output ≡ take m (fetching n t (bufferAfter n t start cs) w out).output)
+          (fetching n t (buffer_after n t start cs) v out).reply ≡ Length l → (fetching n t (buffer_after n t start cs) w out).reply ≡ Length m →
+          SameMeaning (table_labels n t) (graph_of_rows s) (graph_of_rows g) ↔
+          (take l (fetching n t (buffer_after n t start cs) v out).output ≡ take m (fetching n t (buffer_after n t start cs) w out).output)
       read-meaning v w a b one other s g first second out l m p q =
           let e = read_kept v a one out in
           let d = read_kept w b other out in
@@ -272,44 +272,44 @@ module _ (n : ℕ) (t : List ℕ) where
     -- Calls from an empty store on.
     module _ (rest : List ℕ) (short : length rest ≤ 16382) (cs : List Call) where
       abbrev start : List ℕ
-      start = emptyState ++ rest
+      start = empty_state ++ rest
 
-      begins : Holds n t start noPrograms
+      begins : Holds n t start no_programs
       begins = empty-held n t rest short
 
       -- The programs are those that were put and not dropped.
-      pub put-and-kept : (version : ℕ) (p : List ℕ) → (get_or (programsAfter n t (emptyState ++ rest) noPrograms cs) version none ≡ some p) ↔
-          ((bytes : List ℕ) × (rows : List (Row Label)) × Keeps n t version bytes (emptyState ++ rest) cs × (reading n bytes ≡ accepted rows) × (p ≡ writtenRecord rows))
+      pub put-and-kept : (version : ℕ) (p : List ℕ) → (get_or (programs_after n t (empty_state ++ rest) no_programs cs) version none ≡ some p) ↔
+          ((bytes : List ℕ) × (rows : List (Row Label)) × Keeps n t version bytes (empty_state ++ rest) cs × (reading n bytes ≡ accepted rows) × (p ≡ written_record rows))
       put-and-kept version p = (
         λ e. ⊎_elim
-            (λ (bytes, keeps, is). let (rows, reads, at) = kept-program n t opens version bytes cs start noPrograms begins keeps in
-            (bytes, rows, keeps, reads, is ∙ ap writtenIn reads))
+            (λ (bytes, keeps, is). let (rows, reads, at) = kept-program n t opens version bytes cs start no_programs begins keeps in
+            (bytes, rows, keeps, reads, is ∙ ap written_in reads))
             (λ (there, _). none-some (sym (absent-all 16 version) ∙ there))
-            (program-kept n t opens version cs start noPrograms begins p e),
-        λ (bytes, rows, keeps, reads, is). let (others, again, at) = kept-program n t opens version bytes cs start noPrograms begins keeps in
+            (program-kept n t opens version cs start no_programs begins p e),
+        λ (bytes, rows, keeps, reads, is). let (others, again, at) = kept-program n t opens version bytes cs start no_programs begins keeps in
             let same : others ≡ rows = let q : accepted others ≡ accepted rows = sym again ∙ reads in cc in
-            at ∙ ap (λ (r : List (Row Label)). some (writtenRecord r)) same ∙ ap some (sym is),
+            at ∙ ap (λ (r : List (Row Label)). some (written_record r)) same ∙ ap some (sym is),
       )
 
       -- A read gives 20 exactly where no program was put under the version, or the version was dropped since.
-      pub read-unkept : (version : ℕ) (out : List ℕ) → ((fetching n t (bufferAfter n t (emptyState ++ rest) cs) version out).reply ≡ WrongVersion) ↔
-          ((bytes : List ℕ) → Keeps n t version bytes (emptyState ++ rest) cs → ⊥)
+      pub read-unkept : (version : ℕ) (out : List ℕ) → ((fetching n t (buffer_after n t (empty_state ++ rest) cs) version out).reply ≡ WrongVersion) ↔
+          ((bytes : List ℕ) → Keeps n t version bytes (empty_state ++ rest) cs → ⊥)
       read-unkept version out = (
         λ e bytes keeps.
-            let (rows, reads, at) = kept-program n t opens version bytes cs start noPrograms begins keeps in
+            let (rows, reads, at) = kept-program n t opens version bytes cs start no_programs begins keeps in
             none-some (sym (absent ((read-exact n t after version out WrongVersion).0 e)) ∙ at),
         λ unkept. (read-exact n t after version out WrongVersion).1
             (due.numbered now opens after_holds (inr (missing unkept (get_or now version none) refl))),
       )
         where
           after : List ℕ
-          after = bufferAfter n t start cs
+          after = buffer_after n t start cs
 
           now : Programs
-          now = programsAfter n t start noPrograms cs
+          now = programs_after n t start no_programs cs
 
           after_holds : Holds n t after now
-          after_holds = (calls-hold n t opens cs start noPrograms begins).1
+          after_holds = (calls-hold n t opens cs start no_programs begins).1
 
           absent : ReadDue n t after version (length out) WrongVersion → get_or now version none ≡ none
           absent (due.numbered ps _ holds wrong) =
@@ -323,13 +323,13 @@ module _ (n : ℕ) (t : List ℕ) where
       -- version order.
       pub used-by-puts : (s : List ℕ) ×
           ((other : List ℕ) → length other ≡ length rest →
-          putsFrom n t (emptyState ++ other) emptyState 0 (programsAfter n t (emptyState ++ rest) noPrograms cs) ≡ made s) ×
-          (bufferAfter n t (emptyState ++ rest) cs ≡ s ++ drop (length s) (bufferAfter n t (emptyState ++ rest) cs))
+          puts_from n t (empty_state ++ other) empty_state 0 (programs_after n t (empty_state ++ rest) no_programs cs) ≡ made s) ×
+          (buffer_after n t (empty_state ++ rest) cs ≡ s ++ drop (length s) (buffer_after n t (empty_state ++ rest) cs))
       used-by-puts =
-          let (long, holds) = calls-hold n t opens cs start noPrograms begins in (
+          let (long, holds) = calls-hold n t opens cs start no_programs begins in (
             holds.state,
-            λ other same. way-by-puts n t opens other (omega arith) (programsAfter n t start noPrograms cs) holds.versions ∙
-                ap (λ (k : ℕ). way n t k (programsAfter n t start noPrograms cs)) (ap (λ (k : ℕ). suc (suc k)) same ∙ sym long) ∙ holds.reached,
+            λ other same. way-by-puts n t opens other (omega arith) (programs_after n t start no_programs cs) holds.versions ∙
+                ap (λ (k : ℕ). way n t k (programs_after n t start no_programs cs)) (ap (λ (k : ℕ). suc (suc k)) same ∙ sym long) ∙ holds.reached,
             holds.first,
           )
 
@@ -365,31 +365,31 @@ module _ (n : ℕ) (t : List ℕ) where
           )
 
       -- The state that a put makes is the end of a way.
-      put-ends : (version : ℕ) (bytes s : List ℕ) → putAmong n t (length buffer) version bytes ps ≡ made s →
+      put-ends : (version : ℕ) (bytes s : List ℕ) → put_among n t (length buffer) version bytes ps ≡ made s →
           (qs : Programs) × Versions n qs × (way n t (length buffer) qs ≡ made s)
       put-ends version bytes s e = read (reading n bytes) refl e
         where
           test : (rows : List (Row Label)) → reading n bytes ≡ accepted rows → (b : Bool) →
-              cond b (way n t (length buffer) (set ps version (some (writtenRecord rows)))) (stopped WrongVersion) ≡ made s →
+              cond b (way n t (length buffer) (set ps version (some (written_record rows)))) (stopped WrongVersion) ≡ made s →
               (qs : Programs) × Versions n qs × (way n t (length buffer) qs ≡ made s)
           test rows reads true d = (
-            set ps version (some (writtenRecord rows)),
-            set-versions n ps version (some (writtenRecord rows)) alike.holds.versions
+            set ps version (some (written_record rows)),
+            set-versions n ps version (some (written_record rows)) alike.holds.versions
                 (λ q i. subst (WrittenRecord n) (some-injective i) (program-written n t bytes rows reads)),
             d,
           )
           test rows reads false d = stopped-made d
 
-          read : (o : Reading) → reading n bytes ≡ o → (onProgram o λ p. onAbsent ps version (way n t (length buffer) (set ps version (some p)))) ≡ made s →
+          read : (o : Reading) → reading n bytes ≡ o → (on_program o λ p. on_absent ps version (way n t (length buffer) (set ps version (some p)))) ≡ made s →
               (qs : Programs) × Versions n qs × (way n t (length buffer) qs ≡ made s)
           read (refused fault) q d = stopped-made d
           read (accepted rows) q d = test rows q (ltb version 16 && is_none (get_or ps version none)) d
 
-      drop-ends : (version : ℕ) (s : List ℕ) → dropAmong n t (length buffer) version ps ≡ made s →
+      drop-ends : (version : ℕ) (s : List ℕ) → drop_among n t (length buffer) version ps ≡ made s →
           (qs : Programs) × Versions n qs × (way n t (length buffer) qs ≡ made s)
       drop-ends version s e = go (get_or ps version none) e
         where
-          go : (o : Option (List ℕ)) → (onPresent o λ p. way n t (length buffer) (set ps version none)) ≡ made s →
+          go : (o : Option (List ℕ)) → (on_present o λ p. way n t (length buffer) (set ps version none)) ≡ made s →
               (qs : Programs) × Versions n qs × (way n t (length buffer) qs ≡ made s)
           go none d = stopped-made d
           go (some p) d = (set ps version none, set-versions n ps version none alike.holds.versions (λ q i. none-some i), d)
@@ -398,10 +398,10 @@ module _ (n : ℕ) (t : List ℕ) where
       pub put-alike : (version : ℕ) (bytes : List ℕ) → ((putting n t other version bytes).reply ≡ (putting n t buffer version bytes).reply) ×
           Alike n t (putting n t buffer version bytes).output (putting n t other version bytes).output
       put-alike version bytes =
-          let m : Made = putAmong n t (length buffer) version bytes ps in
+          let m : Made = put_among n t (length buffer) version bytes ps in
           let here : putting n t buffer version bytes ≡ settled buffer m = putting-is n t opens buffer ps alike.holds version bytes in
           let there : putting n t other version bytes ≡ settled other m =
-          putting-is n t opens other ps other-holds version bytes ∙ ap (λ (k : ℕ). settled other (putAmong n t k version bytes ps)) alike.long in
+          putting-is n t opens other ps other-holds version bytes ∙ ap (λ (k : ℕ). settled other (put_among n t k version bytes ps)) alike.long in
           let both : ((settled other m).reply ≡ (settled buffer m).reply) × Alike n t (settled buffer m).output (settled other m).output =
           settled-alike m (put-ends version bytes) in
           subst (λ (y : Result). (y.reply ≡ (putting n t buffer version bytes).reply) × Alike n t (putting n t buffer version bytes).output y.output) (sym there)
@@ -410,10 +410,10 @@ module _ (n : ℕ) (t : List ℕ) where
       pub drop-alike : (version : ℕ) → ((dropping n t other version).reply ≡ (dropping n t buffer version).reply) ×
           Alike n t (dropping n t buffer version).output (dropping n t other version).output
       drop-alike version =
-          let m : Made = dropAmong n t (length buffer) version ps in
+          let m : Made = drop_among n t (length buffer) version ps in
           let here : dropping n t buffer version ≡ settled buffer m = dropping-is n t opens buffer ps alike.holds version in
           let there : dropping n t other version ≡ settled other m =
-          dropping-is n t opens other ps other-holds version ∙ ap (λ (k : ℕ). settled other (dropAmong n t k version ps)) alike.long in
+          dropping-is n t opens other ps other-holds version ∙ ap (λ (k : ℕ). settled other (drop_among n t k version ps)) alike.long in
           let both : ((settled other m).reply ≡ (settled buffer m).reply) × Alike n t (settled buffer m).output (settled other m).output =
           settled-alike m (drop-ends version) in
           subst (λ (y : Result). (y.reply ≡ (dropping n t buffer version).reply) × Alike n t (dropping n t buffer version).output y.output) (sym there)
@@ -430,8 +430,8 @@ module _ (n : ℕ) (t : List ℕ) where
 
     -- Any calls give both buffers the same replies and leave them the same used bytes.
     pub calls-alike : (cs : List Call) (buffer other : List ℕ) → Alike n t buffer other → (replies n t other cs ≡ replies n t buffer cs) ×
-        Alike n t (bufferAfter n t buffer cs) (bufferAfter n t other cs)
-    unfolding replies bufferAfter
+        Alike n t (buffer_after n t buffer cs) (buffer_after n t other cs)
+    unfolding replies buffer_after
     calls-alike [] buffer other alike = (refl, alike)
     calls-alike (c ∷ cs) buffer other alike =
         let (same, next) = call-alike c buffer other alike in

@@ -21,18 +21,18 @@ use Rattle.versions.specs.State.{
   stopped,
   and_then,
   Programs,
-  noPrograms,
-  emptyState,
-  twoBytes,
-  mapOf,
+  no_programs,
+  empty_state,
+  two_bytes,
+  map_of,
   measured,
   state_of,
-  differenceOf,
+  difference_of,
   differences,
   within,
   stored,
   joined,
-  wayFrom,
+  way_from,
   way,
   begins,
   unpacked,
@@ -52,13 +52,13 @@ snoc-first (x ∷ ps) o (suc v) p e = snoc-first ps o v p e
 
 -- A version that does not exist changes neither map nor differences.
 
-map-absent : (ps : Programs) → mapOf (ps ++ none ∷ []) ≡ mapOf ps
-unfolding mapOf
+map-absent : (ps : Programs) → map_of (ps ++ none ∷ []) ≡ map_of ps
+unfolding map_of
 map-absent [] = omega arith
 map-absent (p ∷ ps) = omega (arith, map-absent ps)
 
-map-present : (ps : Programs) (p : List ℕ) → 0 < mapOf (ps ++ some p ∷ [])
-unfolding mapOf
+map-present : (ps : Programs) (p : List ℕ) → 0 < map_of (ps ++ some p ∷ [])
+unfolding map_of
 map-present [] p = omega arith
 map-present (q ∷ ps) p = omega (arith, map-present ps p)
 
@@ -76,18 +76,18 @@ module _ (n : ℕ) (t : List ℕ) where
   differences-absent part [] = refl
   differences-absent part (none ∷ ps) = differences-absent part ps
   differences-absent part (some p ∷ ps) =
-      ap (λ (m : Made). and_then (differenceOf n t part p) λ d. and_then m λ ds. made (measured d ++ ds)) (differences-absent part ps)
+      ap (λ (m : Made). and_then (difference_of n t part p) λ d. and_then m λ ds. made (measured d ++ ds)) (differences-absent part ps)
 
   stored-absent : (room : ℕ) (part : List ℕ) (ps : Programs) → stored n t room part (ps ++ none ∷ []) ≡ stored n t room part ps
   unfolding stored state_of
   stored-absent room part ps =
-      ap₂ (λ (m : Made) (x : ℕ). and_then m λ ds. within room (twoBytes x ++ (measured part ++ ds)))
+      ap₂ (λ (m : Made) (x : ℕ). and_then m λ ds. within room (two_bytes x ++ (measured part ++ ds)))
       (differences-absent part ps) (map-absent ps)
 
   -- Where the way stands: no program is done, or there is the common part of the programs that are done, with their state.
   data At (room : ℕ) (done : Programs) : Option (List ℕ) → List ℕ → Type 0 where
-    empty : mapOf done ≡ 0 → At room done none emptyState
-    storing : (part state : List ℕ) → WrittenRecord n part → 0 < mapOf done → stored n t room part done ≡ made state → At room done (some part) state
+    empty : map_of done ≡ 0 → At room done none empty_state
+    storing : (part state : List ℕ) → WrittenRecord n part → 0 < map_of done → stored n t room part done ≡ made state → At room done (some part) state
 
   at-absent : {room : ℕ} {done : Programs} {part : Option (List ℕ)} {state : List ℕ} → At room done part state → At room (done ++ none ∷ []) part state
   at-absent {done = done} (empty e) = empty (map-absent done ∙ e)
@@ -102,7 +102,7 @@ module _ (n : ℕ) (t : List ℕ) where
 
   at-passed : {room : ℕ} {behind : Programs} {part : Option (List ℕ)} {state : List ℕ} → Passed n t room behind part state →
       ((v : ℕ) (p : List ℕ) → get_or behind v none ≡ some p → WrittenRecord n p) → At room behind part state
-  unfolding mapOf
+  unfolding map_of
   at-passed start written = empty refl
   at-passed (absent behind part state before) written = at-absent (at-passed before (λ v p e. written v p (snoc-first behind none v p e)))
   at-passed (steps behind part state program c s before is reached) written =
@@ -113,8 +113,8 @@ module _ (n : ℕ) (t : List ℕ) where
 
   -- A way that ends in a state has passed all versions.
   from-passed : (room : ℕ) (ahead behind : Programs) (part : Option (List ℕ)) (state b : List ℕ) → Passed n t room behind part state →
-      wayFrom n t room behind part state ahead ≡ made b → (last : Option (List ℕ)) × Passed n t room (behind ++ ahead) last b
-  unfolding wayFrom
+      way_from n t room behind part state ahead ≡ made b → (last : Option (List ℕ)) × Passed n t room (behind ++ ahead) last b
+  unfolding way_from
   from-passed room [] behind part state b here e =
       (part, subst (λ (ds : Programs). Passed n t room ds part b) (sym (append-nil behind)) (subst (λ (s : List ℕ). Passed n t room behind part s) (made-injective e) here))
   from-passed room (none ∷ ahead) behind part state b here e =
@@ -122,16 +122,16 @@ module _ (n : ℕ) (t : List ℕ) where
       (last, subst (λ (ds : Programs). Passed n t room ds last b) (append_snoc behind none ahead) there)
   from-passed room (some p ∷ ahead) behind part state b here e =
       let (c, is, more) =
-      then-made (joined n t part p) (λ c. and_then (stored n t room c (behind ++ some p ∷ [])) λ s. wayFrom n t room (behind ++ some p ∷ []) (some c) s ahead) b e in
+      then-made (joined n t part p) (λ c. and_then (stored n t room c (behind ++ some p ∷ [])) λ s. way_from n t room (behind ++ some p ∷ []) (some c) s ahead) b e in
       let (s, state-is, on) =
-      then-made (stored n t room c (behind ++ some p ∷ [])) (λ s. wayFrom n t room (behind ++ some p ∷ []) (some c) s ahead) b more in
+      then-made (stored n t room c (behind ++ some p ∷ [])) (λ s. way_from n t room (behind ++ some p ∷ []) (some c) s ahead) b more in
       let (last, there) = from-passed room ahead (behind ++ some p ∷ []) (some c) s b (steps behind part state p c s here is state-is) on in
       (last, subst (λ (ds : Programs). Passed n t room ds last b) (append_snoc behind (some p) ahead) there)
 
   -- Past some versions, the way goes on from their common part and state.
   pub passed_on : {room : ℕ} {behind : Programs} {part : Option (List ℕ)} {state : List ℕ} → Passed n t room behind part state → (ahead : Programs) →
-      way n t room (behind ++ ahead) ≡ wayFrom n t room behind part state ahead
-  unfolding way wayFrom
+      way n t room (behind ++ ahead) ≡ way_from n t room behind part state ahead
+  unfolding way way_from
   passed_on start ahead = refl
   passed_on {room} (absent behind part state before) ahead =
       ap (way n t room) (append_snoc behind none ahead) ∙ passed_on before (none ∷ ahead)
@@ -141,9 +141,9 @@ module _ (n : ℕ) (t : List ℕ) where
 
   -- The way ends in a state exactly where it passes all versions and comes to that state.
   pub way-passes : (room : ℕ) (ps : Programs) (b : List ℕ) → (way n t room ps ≡ made b) ↔ ((last : Option (List ℕ)) × Passed n t room ps last b)
-  unfolding way wayFrom
+  unfolding way way_from
   way-passes room ps b = (
-    from-passed room ps [] none emptyState b start,
+    from-passed room ps [] none empty_state b start,
     λ (last, there). ap (way n t room) (sym (append-nil ps)) ∙ passed_on there [],
   )
 
@@ -153,13 +153,13 @@ module _ (n : ℕ) (t : List ℕ) where
 
   -- The bytes of a state: two zero bytes where no version exists, else the map, the common part and the differences.
   pub state-bytes : (room : ℕ) (ps : Programs) → Versions n ps → (b : List ℕ) → way n t room ps ≡ made b →
-      ((ps ≡ noPrograms) × (b ≡ emptyState)) ⊎
+      ((ps ≡ no_programs) × (b ≡ empty_state)) ⊎
       ((part : List ℕ) × (ds : List ℕ) × Passed n t room ps (some part) b × (differences n t part ps ≡ made ds) × (b ≡ state_of ps part ds))
   unfolding stored way-passes
   state-bytes room ps versions b reached = let (last, there) = (way-passes room ps b).0 reached in go there (at-passed there versions.written)
     where
       go : {last : Option (List ℕ)} {state : List ℕ} → Passed n t room ps last state → At room ps last state →
-          ((ps ≡ noPrograms) × (state ≡ emptyState)) ⊎
+          ((ps ≡ no_programs) × (state ≡ empty_state)) ⊎
           ((part : List ℕ) × (ds : List ℕ) × Passed n t room ps (some part) state × (differences n t part ps ≡ made ds) × (state ≡ state_of ps part ds))
       go there (empty e) = inl (map-zero ps e ∙ ap (λ (k : ℕ). replicate k none) versions.sixteen, refl)
       go there (storing part state one more e) =
@@ -167,7 +167,7 @@ module _ (n : ℕ) (t : List ℕ) where
           inr (part, ds, there, is, sym (within-made room (state_of ps part ds) state last).0)
 
   at_long : {room : ℕ} {ps : Programs} {last : Option (List ℕ)} {b : List ℕ} → At room ps last b → 2 ≤ length b
-  unfolding stored state_of twoBytes
+  unfolding stored state_of two_bytes
   at_long (empty e) = omega arith
   at_long {room} {ps} (storing part state one there e) =
       let (ds, is, more) = then-made (differences n t part ps) (λ ds. within room (state_of ps part ds)) state e in

@@ -10,13 +10,13 @@ use Rattle.acceptance.specs.declared.Opened.TheVariants.{Accepted, Refused}
 use Rattle.acceptance.specs.Reply.{opened}
 use Rattle.record.specs.declared.GraphFault.{GraphFault}
 use Rattle.record.specs.declared.GraphFault.TheVariants.{Malformed}
-use Rattle.record.specs.Read.{reading, accepted, refused, graphOfRows}
+use Rattle.record.specs.Read.{reading, accepted, refused, graph_of_rows}
 use Rattle.replies.specs.declared.Side.TheVariants.{First, Second}
 use Rattle.replies.specs.declared.Reply.{Reply}
 use Rattle.replies.specs.declared.Reply.TheVariants.{Length, Table, Graph, NoRoom, TooLarge, NoWantedType, WrongVersion, NoStoreRoom}
 use Rattle.demands.specs.Demand.{WrittenRecord, Large, common}
-use Rattle.versions.specs.State.{made, Programs, emptyState, state_of, differences, stored, joined, way}
-use Rattle.contents.specs.Contents.{writtenRecord}
+use Rattle.versions.specs.State.{made, Programs, empty_state, state_of, differences, stored, joined, way}
+use Rattle.contents.specs.Contents.{written_record}
 
 -- "up to 16 versions": each that exists is the written record of a program.
 pub record Versions (n : ℕ) (ps : Programs) : Type 0 where
@@ -38,7 +38,7 @@ HoldsNone n t buffer = (ps : Programs) → Holds n t buffer ps → ⊥
 -- "Each step of that way stores the common part of its programs, folded in version order, and every program's difference from it." In a room of
 -- so many bytes, the way has passed these versions, and has their common part so far, if a version exists, and the state that stores them.
 pub data Passed (n : ℕ) (t : List ℕ) (room : ℕ) : Programs → Option (List ℕ) → List ℕ → Type 0 where
-  start : Passed n t room [] none emptyState
+  start : Passed n t room [] none empty_state
   absent : (behind : Programs) (part : Option (List ℕ)) (state : List ℕ) → Passed n t room behind part state → Passed n t room (behind ++ none ∷ []) part state
   steps : (behind : Programs) (part : Option (List ℕ)) (state program c s : List ℕ) → Passed n t room behind part state →
       joined n t part program ≡ made c → stored n t room c (behind ++ some program ∷ []) ≡ made s →
@@ -55,8 +55,8 @@ pub record Step (n : ℕ) (t : List ℕ) (room : ℕ) (ps : Programs) : Type 0 w
   pub passed : Passed n t room behind part state
 
 -- the programs of a step
-abbrev pub programsOf : {n : ℕ} {t : List ℕ} {room : ℕ} {ps : Programs} → Step n t room ps → Programs
-programsOf step = step.behind ++ some step.program ∷ []
+abbrev pub programs_of : {n : ℕ} {t : List ℕ} {room : ℕ} {ps : Programs} → Step n t room ps → Programs
+programs_of step = step.behind ++ some step.program ∷ []
 
 -- "the first number met on that way": the way passes every step before some step and stops at that step.
 pub data Met (n : ℕ) (t : List ℕ) (room : ℕ) (ps : Programs) : Reply → Type 0 where
@@ -65,11 +65,11 @@ pub data Met (n : ℕ) (t : List ℕ) (room : ℕ) (ps : Programs) : Reply → T
       reading n part ≡ accepted g → reading n step.program ≡ accepted h → Large (common n t g h) → Met n t room ps TooLarge
   -- 13 is met where the common part is made and some node of one of the step's programs has no wanted type for the difference from it.
   unwanted : (step : Step n t room ps) (c : List ℕ) (v : ℕ) (p : List ℕ) (g s : List (Row Label)) → joined n t step.part step.program ≡ made c →
-      get_or (programsOf step) v none ≡ some p → reading n c ≡ accepted g → reading n p ≡ accepted s →
-      SomeUnwanted n t (graphOfRows s) (graphOfRows g) → Met n t room ps NoWantedType
+      get_or (programs_of step) v none ≡ some p → reading n c ≡ accepted g → reading n p ≡ accepted s →
+      SomeUnwanted n t (graph_of_rows s) (graph_of_rows g) → Met n t room ps NoWantedType
   -- 21 is met where all differences are made too: "after a step's 11 and 13, too few bytes for its state is 21".
   short : (step : Step n t room ps) (c ds : List ℕ) → joined n t step.part step.program ≡ made c →
-      differences n t c (programsOf step) ≡ made ds → room < length (state_of (programsOf step) c ds) → Met n t room ps NoStoreRoom
+      differences n t c (programs_of step) ≡ made ds → room < length (state_of (programs_of step) c ds) → Met n t room ps NoStoreRoom
 
 -- A put passes the checks before its way: the table is accepted, the buffer holds programs, the program is accepted, and the version number is
 -- "from 0 to 15" and "absent".
@@ -118,10 +118,10 @@ module _ (n : ℕ) (t buffer : List ℕ) (version : ℕ) where
         (15 < version) ⊎ ((p : List ℕ) × (get_or ps version none ≡ some p)) → PutDue bytes WrongVersion
     -- 11, 13 and 21: "refused with the first number met on that way".
     met : (ps : Programs) (rows : List (Row Label)) (r : Reply) → PutChecked n t buffer version bytes ps rows →
-        Met n t (length buffer) (set ps version (some (writtenRecord rows))) r → PutDue bytes r
+        Met n t (length buffer) (set ps version (some (written_record rows))) r → PutDue bytes r
     -- "Put and drop return the used length."
     used : (ps : Programs) (rows : List (Row Label)) (s : List ℕ) → PutChecked n t buffer version bytes ps rows →
-        way n t (length buffer) (set ps version (some (writtenRecord rows))) ≡ made s → PutDue bytes (Length (length s))
+        way n t (length buffer) (set ps version (some (written_record rows))) ≡ made s → PutDue bytes (Length (length s))
 
   -- The replies of a drop.
   pub data DropDue : Reply → Type 0 where

@@ -11,7 +11,7 @@ use borrow.Author.Tests.{eq-eqb, ne_eqb}
 use lib.Dec.{eqb}
 use lib.ListN.{length, get_or, set, length-set}
 use lib.Seq.{get_or-set_same, get_or-set_other}
-use Rattle.layout.specs.Layout.{scale, size, linksFrom, rowEnd, featureAt, targetAt, Node, Recorded}
+use Rattle.layout.specs.Layout.{scale, size, links_from, row_end, feature_at, target_at, Node, Recorded}
 use Rattle.layout.proofs.Spans.{features-rise}
 use Rattle.subsume.specs.Following.{Sought, Queued, Meets, Comes, Clash, Followed, Follows, unmapped}
 use Rattle.subsume.specs.Following.Comes.{kept, led}
@@ -22,7 +22,7 @@ use Rattle.subsume.specs.Following.Clash.{lacks, splits}
 pub record Seeking (ws : List ℕ) (at end f k : ℕ) : Type 0 where
   pub low : at ≤ k
   pub high : k ≤ end
-  pub before : (i : ℕ) → at ≤ i → i < k → featureAt ws i < f
+  pub before : (i : ℕ) → at ≤ i → i < k → feature_at ws i < f
 
 -- A word below the least word of a feature has a lower feature.
 pub feature-under : (w f : ℕ) → w < f * scale → w / scale < f
@@ -35,7 +35,7 @@ pub seek-on : {ws : List ℕ} {at end f k : ℕ} → Seeking ws at end f k → k
 seek-on {ws} {at} {end} {f} {k} s h less =
     record { low = omega (arith, s.low); high = omega arith; before = λ i low high. go i low high (ℕ_discrete i k) }
   where
-    go : (i : ℕ) → at ≤ i → i < k + 1 → Dec (i ≡ k) → featureAt ws i < f
+    go : (i : ℕ) → at ≤ i → i < k + 1 → Dec (i ≡ k) → feature_at ws i < f
     go i low high (yes e) = rw e (feature-under (get_or ws k 0) f less)
     go i low high (no d) = s.before i low (omega arith)
 
@@ -128,8 +128,8 @@ missing h e = omega arith
 -- The row of a node: places whose features ascend, with targets below 255.
 pub record Span (ws : List ℕ) (v : ℕ) : Type 0 where
   pub node : Node ws v
-  pub ascending : (k : ℕ) → linksFrom ws v ≤ k → k + 1 < rowEnd ws v → featureAt ws k < featureAt ws (k + 1)
-  pub within : (k : ℕ) → linksFrom ws v ≤ k → k < rowEnd ws v → targetAt ws k < 255
+  pub ascending : (k : ℕ) → links_from ws v ≤ k → k + 1 < row_end ws v → feature_at ws k < feature_at ws (k + 1)
+  pub within : (k : ℕ) → links_from ws v ≤ k → k < row_end ws v → target_at ws k < 255
 
 pub spans : {ws : List ℕ} → Recorded ws → (v : ℕ) → v < size ws → Span ws v
 spans r v h =
@@ -154,16 +154,16 @@ module _ (s g : List ℕ) (u v : ℕ) where
   pub record Following (map queue : List ℕ) (count : ℕ) (later longer : List ℕ) (k j more : ℕ) : Type 0 where
     pub s-row : Span s u
     pub g-row : Span g v
-    pub low : linksFrom g v ≤ k
-    pub high : k ≤ rowEnd g v
-    pub s-low : linksFrom s u ≤ j
-    pub s-high : j ≤ rowEnd s u
-    pub before : k < rowEnd g v → (i : ℕ) → linksFrom s u ≤ i → i < j → featureAt s i < featureAt g k
+    pub low : links_from g v ≤ k
+    pub high : k ≤ row_end g v
+    pub s-low : links_from s u ≤ j
+    pub s-high : j ≤ row_end s u
+    pub before : k < row_end g v → (i : ℕ) → links_from s u ≤ i → i < j → feature_at s i < feature_at g k
     pub followed : Followed s g u v map queue count later longer more k
 
 module _ {s g : List ℕ} {u v : ℕ} where
   pub following-start : {map queue : List ℕ} {count : ℕ} → Span s u → Span g v → Queued map queue count →
-      Following s g u v map queue count map queue (linksFrom g v) (linksFrom s u) count
+      Following s g u v map queue count map queue (links_from g v) (links_from s u) count
   following-start a b q =
       record {
         s-row = a;
@@ -185,10 +185,10 @@ module _ {s g : List ℕ} {u v : ℕ} where
       }
 
   pub following-done : {map queue later longer : List ℕ} {count k j more : ℕ} → Following s g u v map queue count later longer k j more →
-      rowEnd g v ≤ k → Follows s g u v map queue count later longer more
+      row_end g v ≤ k → Follows s g u v map queue count later longer more
   following-done {map} {queue} {later} {longer} {count} {k} {j} {more} f h =
-      let e : k ≡ rowEnd g v = omega (arith, f.high) in
-      let done : Followed s g u v map queue count later longer more (rowEnd g v) =
+      let e : k ≡ row_end g v = omega (arith, f.high) in
+      let done : Followed s g u v map queue count later longer more (row_end g v) =
       subst (λ (i : ℕ). Followed s g u v map queue count later longer more i) e f.followed in
       record { goes = λ _. done; fails = λ over. absurd (omega (arith, f.followed.queued.counted)) }
 
@@ -196,58 +196,58 @@ module _ {s g : List ℕ} {u v : ℕ} where
   fails c = record { goes = λ h. absurd (omega arith); fails = λ _. c }
 
   module _ {map queue later longer : List ℕ} {count k j more : ℕ} (f : Following s g u v map queue count later longer k j more)
-      (inside : k < rowEnd g v) {place : ℕ} (sought : Sought s j (rowEnd s u) (featureAt g k) place) where
-    pub target-in : targetAt g k < 255
+      (inside : k < row_end g v) {place : ℕ} (sought : Sought s j (row_end s u) (feature_at g k) place) where
+    pub target-in : target_at g k < 255
     target-in = f.g-row.within k f.low inside
 
-    place-low : linksFrom s u ≤ place
+    place-low : links_from s u ≤ place
     place-low = omega (arith, f.s-low, sought.low)
 
     -- no place before has the feature
-    passed : (i : ℕ) → linksFrom s u ≤ i → i < place → featureAt s i < featureAt g k
+    passed : (i : ℕ) → links_from s u ≤ i → i < place → feature_at s i < feature_at g k
     passed i low high = go (dec_lt i j)
       where
-        go : Dec (i < j) → featureAt s i < featureAt g k
+        go : Dec (i < j) → feature_at s i < feature_at g k
         go (yes h) = f.before inside i low h
         go (no h) = sought.before i (omega arith) high
 
     -- s has no link by the feature
-    pub lacks-end : rowEnd s u ≤ place → Clash s g u v map
+    pub lacks-end : row_end s u ≤ place → Clash s g u v map
     lacks-end h = lacks k f.low inside λ i low high e. apart (passed i low (omega arith)) e
 
-    pub lacks-feature : (featureAt s place ≡ featureAt g k → ⊥) → place < rowEnd s u → Clash s g u v map
+    pub lacks-feature : (feature_at s place ≡ feature_at g k → ⊥) → place < row_end s u → Clash s g u v map
     lacks-feature d h = lacks k f.low inside λ i low high e. go i low high e (dec_lt i place) (ℕ_discrete i place)
       where
-        go : (i : ℕ) → linksFrom s u ≤ i → i < rowEnd s u → featureAt s i ≡ featureAt g k → Dec (i < place) → Dec (i ≡ place) → ⊥
+        go : (i : ℕ) → links_from s u ≤ i → i < row_end s u → feature_at s i ≡ feature_at g k → Dec (i < place) → Dec (i ≡ place) → ⊥
         go i low high e (yes b) q = apart (passed i low b) e
-        go i low high e (no b) (yes q) = d (ap (featureAt s) (sym q) ∙ e)
+        go i low high e (no b) (yes q) = d (ap (feature_at s) (sym q) ∙ e)
         go i low high e (no b) (no q) =
             above
-            (features-rise s (rowEnd s u) f.s-row.node.ended (linksFrom s u) f.s-row.ascending
+            (features-rise s (row_end s u) f.s-row.node.ended (links_from s u) f.s-row.ascending
             (i - suc place) place i place-low (omega arith) high)
             (sought.found h) e
 
-    module _ (h : place < rowEnd s u) (e : featureAt s place ≡ featureAt g k) where
+    module _ (h : place < row_end s u) (e : feature_at s place ≡ feature_at g k) where
       meets : Meets s g u v k place
       meets = record { g-low = f.low; g-high = inside; s-low = place-low; s-high = h; feature = e }
 
-      comes-here : Comes s g u v map (targetAt g k) (targetAt s place)
+      comes-here : Comes s g u v map (target_at g k) (target_at s place)
       comes-here = led k place meets refl refl
 
-      image : targetAt s place ≡ 65535 → ⊥
+      image : target_at s place ≡ 65535 → ⊥
       image z = missing (f.s-row.within place place-low h) z
 
-      on-before : k + 1 < rowEnd g v → (i : ℕ) → linksFrom s u ≤ i → i < place → featureAt s i < featureAt g (k + 1)
+      on-before : k + 1 < row_end g v → (i : ℕ) → links_from s u ≤ i → i < place → feature_at s i < feature_at g (k + 1)
       on-before more i low high = lt_trans (passed i low high) (f.g-row.ascending k f.low more)
 
       -- the target has another image
-      pub splits-here : (get_or later (targetAt g k) 0 ≡ 65535 → ⊥) → (get_or later (targetAt g k) 0 ≡ targetAt s place → ⊥) → Clash s g u v map
+      pub splits-here : (get_or later (target_at g k) 0 ≡ 65535 → ⊥) → (get_or later (target_at g k) 0 ≡ target_at s place → ⊥) → Clash s g u v map
       splits-here m d =
-          splits (targetAt g k) (get_or later (targetAt g k) 0) (targetAt s place) target-in
-          (f.followed.comes (targetAt g k) target-in m) comes-here d
+          splits (target_at g k) (get_or later (target_at g k) 0) (target_at s place) target-in
+          (f.followed.comes (target_at g k) target-in m) comes-here d
 
       -- the target has this image already
-      pub following-met : get_or later (targetAt g k) 0 ≡ targetAt s place →
+      pub following-met : get_or later (target_at g k) 0 ≡ target_at s place →
           Following s g u v map queue count later longer (k + 1) place more
       following-met same =
           record {
@@ -269,14 +269,14 @@ module _ {s g : List ℕ} {u v : ℕ} where
                 };
           }
         where
-          go : (i : ℕ) → linksFrom g v ≤ i → i < k + 1 → Dec (i ≡ k) →
-              (p : ℕ) × Meets s g u v i p × (get_or later (targetAt g i) 0 ≡ targetAt s p)
+          go : (i : ℕ) → links_from g v ≤ i → i < k + 1 → Dec (i ≡ k) →
+              (p : ℕ) × Meets s g u v i p × (get_or later (target_at g i) 0 ≡ target_at s p)
           go i low high (yes z) = rw z (place, meets, same)
           go i low high (no d) = f.followed.leads i low (omega arith)
 
       -- the target is given this image
-      pub following-new : get_or later (targetAt g k) 0 ≡ 65535 →
-          Following s g u v map queue count (set later (targetAt g k) (targetAt s place)) (set longer more (targetAt g k)) (k + 1) place (more + 1)
+      pub following-new : get_or later (target_at g k) 0 ≡ 65535 →
+          Following s g u v map queue count (set later (target_at g k) (target_at s place)) (set longer more (target_at g k)) (k + 1) place (more + 1)
       following-new fresh =
           record {
             s-row = f.s-row;
@@ -292,13 +292,13 @@ module _ {s g : List ℕ} {u v : ℕ} where
                   grows = omega (arith, f.followed.grows);
                   keeps = λ w b d. still w (λ z. d (sym (f.followed.keeps w b d) ∙ z)) ∙ f.followed.keeps w b d;
                   stays = λ i b. queue-kept old target-in fresh image i (omega (arith, f.followed.grows)) ∙ f.followed.stays i b;
-                  comes = λ w b d. comes w b d (ℕ_discrete w (targetAt g k));
+                  comes = λ w b d. comes w b d (ℕ_discrete w (target_at g k));
                   leads = λ i low high. go i low high (ℕ_discrete i k);
                 };
           }
         where
           new : List ℕ
-          new = set later (targetAt g k) (targetAt s place)
+          new = set later (target_at g k) (target_at s place)
 
           old : Queued later longer more
           old = f.followed.queued
@@ -306,18 +306,18 @@ module _ {s g : List ℕ} {u v : ℕ} where
           still : (w : ℕ) → (get_or later w 0 ≡ 65535 → ⊥) → get_or new w 0 ≡ get_or later w 0
           still w d = set-kept old target-in fresh image w d
 
-          comes : (w : ℕ) → w < 255 → (get_or new w 0 ≡ 65535 → ⊥) → Dec (w ≡ targetAt g k) → Comes s g u v map w (get_or new w 0)
+          comes : (w : ℕ) → w < 255 → (get_or new w 0 ≡ 65535 → ⊥) → Dec (w ≡ target_at g k) → Comes s g u v map w (get_or new w 0)
           comes w b d (yes z) = rw (z, set_here old target-in fresh image) comes-here
           comes w b d (no n) =
-              let same : get_or new w 0 ≡ get_or later w 0 = get_or-set_other later (targetAt g k) w (targetAt s place) 0 n in
+              let same : get_or new w 0 ≡ get_or later w 0 = get_or-set_other later (target_at g k) w (target_at s place) 0 n in
               rw same (f.followed.comes w b λ z. d (same ∙ z))
 
-          go : (i : ℕ) → linksFrom g v ≤ i → i < k + 1 → Dec (i ≡ k) →
-              (p : ℕ) × Meets s g u v i p × (get_or new (targetAt g i) 0 ≡ targetAt s p)
+          go : (i : ℕ) → links_from g v ≤ i → i < k + 1 → Dec (i ≡ k) →
+              (p : ℕ) × Meets s g u v i p × (get_or new (target_at g i) 0 ≡ target_at s p)
           go i low high (yes z) = rw z (place, meets, set_here old target-in fresh image)
           go i low high (no d) =
               let (p, m, same) = f.followed.leads i low (omega arith) in
-              (p, m, still (targetAt g i) (λ z. missing (f.s-row.within p m.s-low m.s-high) (sym same ∙ z)) ∙ same)
+              (p, m, still (target_at g i) (λ z. missing (f.s-row.within p m.s-low m.s-high) (sym same ∙ z)) ∙ same)
 
   -- `Following` holds for equal arrays and numbers.
   pub following-as : {map queue later longer later' longer' : List ℕ} {count k j more more' : ℕ} → later' ≡ later → longer' ≡ longer →

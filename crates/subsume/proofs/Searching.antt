@@ -14,9 +14,9 @@ use Rattle.graphs.specs.Graph.{Graph, Below, walk, follow}
 use Rattle.graphs.specs.Map.{NodeMap}
 use Rattle.graphs.proofs.Walk.{some-injective, some-unique, snoc-induction, follow-last, walk-snoc}
 use Rattle.graphs.proofs.Below.{below-labels}
-use Rattle.lattice.specs.Labels.{tableLabels, Known}
+use Rattle.lattice.specs.Labels.{table_labels, Known}
 use Rattle.lattice.specs.Label.{Label}
-use Rattle.layout.specs.Layout.{size, linksFrom, rowEnd, label_at, featureAt, targetAt, rows_of, graphIn, Recorded}
+use Rattle.layout.specs.Layout.{size, links_from, row_end, label_at, feature_at, target_at, rows_of, graph_in, Recorded}
 use Rattle.layout.proofs.Places.{label-at, link-at, link-place}
 use Rattle.subsume.specs.declared.Order.TheVariants as order
 use Rattle.subsume.specs.Promise.{Orders}
@@ -37,8 +37,8 @@ module _ (s g : Graph Label ℕ) where
   together-link : {v u w x : ℕ} (f : ℕ) → Together s g v u → g.link v f ≡ some w → s.link u f ≡ some x → Together s g w x
   together-link f t a b = (t.0 ++ (f ∷ []), walk-snoc g t.0 f t.1 ∙ a, walk-snoc s t.0 f t.2 ∙ b)
 
-  module _ (n : ℕ) (t : List ℕ) (b : Below (tableLabels n t) s g) where
-    label-refutes : {v u : ℕ} → Together s g v u → (tableLabels n t).le (s.label u) (g.label v) ≡ false → ⊥
+  module _ (n : ℕ) (t : List ℕ) (b : Below (table_labels n t) s g) where
+    label-refutes : {v u : ℕ} → Together s g v u → (table_labels n t).le (s.label u) (g.label v) ≡ false → ⊥
     label-refutes {v} {u} c e = true≢false (sym (below-labels b c.0 u v c.2 c.1) ∙ e)
 
     lack-refutes : {v u w : ℕ} (f : ℕ) → Together s g v u → g.link v f ≡ some w → ((x : ℕ) → s.link u f ≡ some x → ⊥) → ⊥
@@ -105,9 +105,9 @@ module _ (map queue : List ℕ) (bare : map ≡ replicate 255 65535) (clear : qu
 module _ (t s g : List ℕ) where
   -- Node v is passed: its label is above that of its image, and its image has all its links.
   pub record Passed (map : List ℕ) (v : ℕ) : Type 0 where
-    pub ordered : (n : ℕ) → (tableLabels n t).le (label_at s (get_or map v 0)) (label_at g v) ≡ true
-    pub leads : (k : ℕ) → linksFrom g v ≤ k → k < rowEnd g v →
-        (j : ℕ) × Meets s g (get_or map v 0) v k j × (get_or map (targetAt g k) 0 ≡ targetAt s j)
+    pub ordered : (n : ℕ) → (table_labels n t).le (label_at s (get_or map v 0)) (label_at g v) ≡ true
+    pub leads : (k : ℕ) → links_from g v ≤ k → k < row_end g v →
+        (j : ℕ) × Meets s g (get_or map v 0) v k j × (get_or map (target_at g k) 0 ≡ target_at s j)
 
   -- The nodes in the queue before `head` are passed.
   pub record Searched (map queue : List ℕ) (count head : ℕ) : Type 0 where
@@ -117,7 +117,7 @@ module _ (t s g : List ℕ) where
     pub ahead : head ≤ count
     pub inside : (w : ℕ) → w < 255 → (get_or map w 0 ≡ 65535 → ⊥) → w < size g
     pub image : (w : ℕ) → w < 255 → (get_or map w 0 ≡ 65535 → ⊥) → get_or map w 0 < size s
-    pub together : (w : ℕ) → w < 255 → (get_or map w 0 ≡ 65535 → ⊥) → Together (graphIn s) (graphIn g) w (get_or map w 0)
+    pub together : (w : ℕ) → w < 255 → (get_or map w 0 ≡ 65535 → ⊥) → Together (graph_in s) (graph_in g) w (get_or map w 0)
     pub rooted : get_or map 0 0 ≡ 0
     pub passed : (i : ℕ) → i < head → Passed map (get_or queue i 0)
 
@@ -144,7 +144,7 @@ module _ {t s g : List ℕ} where
         image = λ w h d. rw (at w h d) lower.sound.shaped.nonempty;
         together = λ w h d.
             let e : w ≡ 0 = only-root map queue bare clear w h d in
-            rw (at w h d, e) (together-root (graphIn s) (graphIn g));
+            rw (at w h d, e) (together-root (graph_in s) (graph_in g));
         rooted = root-mapped map queue bare clear;
         passed = λ i h. absurd (omega arith);
       }
@@ -161,45 +161,45 @@ module _ {t s g : List ℕ} where
           rw e at (f.passed i (omega arith))
 
       -- A link of g from a mapped node leads to a mapped node, and s has the same link between the images.
-      link-mapped : (v w a : ℕ) → v < 255 → (get_or map v 0 ≡ 65535 → ⊥) → (graphIn g).link v a ≡ some w →
-          (w < 255) × (get_or map w 0 < 255) × ((graphIn s).link (get_or map v 0) a ≡ some (get_or map w 0))
+      link-mapped : (v w a : ℕ) → v < 255 → (get_or map v 0 ≡ 65535 → ⊥) → (graph_in g).link v a ≡ some w →
+          (w < 255) × (get_or map w 0 < 255) × ((graph_in s).link (get_or map v 0) a ≡ some (get_or map w 0))
       link-mapped v w a h d e =
           let (k, low, high, fk, tk) = link-place f.upper.sound v a w (f.inside v h d) e in
           let (j, m, same) = (mapped-passed v h d).leads k low high in
-          let at : get_or map w 0 ≡ targetAt s j = ap (λ (i : ℕ). get_or map i 0) (sym tk) ∙ same in (
+          let at : get_or map w 0 ≡ target_at s j = ap (λ (i : ℕ). get_or map i 0) (sym tk) ∙ same in (
             omega (arith, f.upper.sound.targets v k (f.inside v h d) low high),
             omega (arith, f.lower.sound.targets (get_or map v 0) j (f.image v h d) m.s-low m.s-high),
-            ap (λ (i : ℕ). (graphIn s).link (get_or map v 0) i) (sym (m.feature ∙ fk)) ∙
+            ap (λ (i : ℕ). (graph_in s).link (get_or map v 0) i) (sym (m.feature ∙ fk)) ∙
                 link-at f.lower.sound (get_or map v 0) j (f.image v h d) m.s-low m.s-high ∙ ap some (sym at),
           )
 
       -- every node that the root reaches is mapped
-      reached-mapped : (p : List ℕ) (v : ℕ) → walk (graphIn g) p ≡ some v → (v < 255) × (get_or map v 0 ≡ 65535 → ⊥)
+      reached-mapped : (p : List ℕ) (v : ℕ) → walk (graph_in g) p ≡ some v → (v < 255) × (get_or map v 0 ≡ 65535 → ⊥)
       unfolding follow
       reached-mapped =
-          snoc-induction (λ p. (v : ℕ) → walk (graphIn g) p ≡ some v → (v < 255) × (get_or map v 0 ≡ 65535 → ⊥)) base more
+          snoc-induction (λ p. (v : ℕ) → walk (graph_in g) p ≡ some v → (v < 255) × (get_or map v 0 ≡ 65535 → ⊥)) base more
         where
-          base : (v : ℕ) → walk (graphIn g) [] ≡ some v → (v < 255) × (get_or map v 0 ≡ 65535 → ⊥)
+          base : (v : ℕ) → walk (graph_in g) [] ≡ some v → (v < 255) × (get_or map v 0 ≡ 65535 → ⊥)
           base v e =
               let z : v ≡ 0 = sym (some-injective e) in
               (omega arith, λ q. omega (arith, sym f.rooted ∙ ap (λ (i : ℕ). get_or map i 0) (sym z) ∙ q))
 
-          more : (p : List ℕ) (a : ℕ) → ((v : ℕ) → walk (graphIn g) p ≡ some v → (v < 255) × (get_or map v 0 ≡ 65535 → ⊥)) →
-              (w : ℕ) → walk (graphIn g) (p ++ (a ∷ [])) ≡ some w → (w < 255) × (get_or map w 0 ≡ 65535 → ⊥)
+          more : (p : List ℕ) (a : ℕ) → ((v : ℕ) → walk (graph_in g) p ≡ some v → (v < 255) × (get_or map v 0 ≡ 65535 → ⊥)) →
+              (w : ℕ) → walk (graph_in g) (p ++ (a ∷ [])) ≡ some w → (w < 255) × (get_or map w 0 ≡ 65535 → ⊥)
           more p a ih w e =
-              let (v, q, l) = follow-last (graphIn g).link (some (graphIn g).root) p a w e in
+              let (v, q, l) = follow-last (graph_in g).link (some (graph_in g).root) p a w e in
               let (h, d) = ih v q in
               let (low, few, x) = link-mapped v w a h d l in
               (low, λ z. omega arith)
 
-      node-map : (n : ℕ) → NodeMap (tableLabels n t) (graphIn s) (graphIn g) (λ v. get_or map v 0)
+      node-map : (n : ℕ) → NodeMap (table_labels n t) (graph_in s) (graph_in g) (λ v. get_or map v 0)
       node-map n =
           record {
             root = f.rooted;
             links = λ v w a r l. let (h, d) = reached-mapped r.0 v r.1 in (link-mapped v w a h d l).2;
             labels = λ v r.
                 let (h, d) = reached-mapped r.0 v r.1 in
-                ap₂ (tableLabels n t).le (label-at s (get_or map v 0) (f.image v h d)) (label-at g v (f.inside v h d)) ∙
+                ap₂ (table_labels n t).le (label-at s (get_or map v 0) (f.image v h d)) (label-at g v (f.inside v h d)) ∙
                 (mapped-passed v h d).ordered n;
           }
 
@@ -207,7 +207,7 @@ module _ {t s g : List ℕ} where
       order-yes n =
           record { yes-stands = λ _. node-map n; no-stands = λ e b. let z : ◌≡◌ {A = ℕ} 0 1 = cc in omega arith }
 
-    order-no : {n : ℕ} {answer : List ℕ} → (Below (tableLabels n t) (graphIn s) (graphIn g) → ⊥) →
+    order-no : {n : ℕ} {answer : List ℕ} → (Below (table_labels n t) (graph_in s) (graph_in g) → ⊥) →
         Orders n t (rows_of s) (rows_of g) order.NotBelow answer
     order-no never =
         record { yes-stands = λ e. let z : ◌≡◌ {A = ℕ} 0 1 = cc in absurd (omega arith); no-stands = λ _. never }
@@ -229,7 +229,7 @@ module _ {t s g : List ℕ} where
       image-in : u < size s
       image-in = f.image v node-small (f.queued.mapped head next)
 
-      both : Together (graphIn s) (graphIn g) v u
+      both : Together (graph_in s) (graph_in g) v u
       both = f.together v node-small (f.queued.mapped head next)
 
       pub next-node : Next s g u v
@@ -244,34 +244,34 @@ module _ {t s g : List ℕ} where
           }
 
       -- If the next node's label is not above that of its image, s is not below g.
-      pub order-label : (n : ℕ) {answer : List ℕ} → (tableLabels n t).le (label_at s u) (label_at g v) ≡ false →
+      pub order-label : (n : ℕ) {answer : List ℕ} → (table_labels n t).le (label_at s u) (label_at g v) ≡ false →
           Orders n t (rows_of s) (rows_of g) order.NotBelow answer
       order-label n e =
-          order-no λ b. label-refutes (graphIn s) (graphIn g) n t b both (ap₂ (tableLabels n t).le (label-at s u image-in) (label-at g v node_in) ∙ e)
+          order-no λ b. label-refutes (graph_in s) (graph_in g) n t b both (ap₂ (table_labels n t).le (label-at s u image-in) (label-at g v node_in) ∙ e)
 
       come-together : {w x : ℕ} → w < 255 → Comes s g u v map w x →
-          Together (graphIn s) (graphIn g) w x
+          Together (graph_in s) (graph_in g) w x
       come-together {w} {x} h (kept d e) = rw e at (f.together w h d)
       come-together {w} {x} h (led k j m a b) =
-          together-link (graphIn s) (graphIn g) (featureAt g k) both
+          together-link (graph_in s) (graph_in g) (feature_at g k) both
           (link-at f.upper.sound v k node_in m.g-low m.g-high ∙ ap some a)
-          (ap (λ (i : ℕ). (graphIn s).link u i) (sym m.feature) ∙ link-at f.lower.sound u j image-in m.s-low m.s-high ∙ ap some b)
+          (ap (λ (i : ℕ). (graph_in s).link u i) (sym m.feature) ∙ link-at f.lower.sound u j image-in m.s-low m.s-high ∙ ap some b)
 
       -- If the next node's links clash, s is not below g.
       pub order-clash : (n : ℕ) {answer : List ℕ} → Clash s g u v map →
           Orders n t (rows_of s) (rows_of g) order.NotBelow answer
       order-clash n (lacks k low high never) =
           order-no λ b.
-          lack-refutes (graphIn s) (graphIn g) n t b (featureAt g k) both (link-at f.upper.sound v k node_in low high)
+          lack-refutes (graph_in s) (graph_in g) n t b (feature_at g k) both (link-at f.upper.sound v k node_in low high)
           λ x e.
-          let (j, a, c, same, to) = link-place f.lower.sound u (featureAt g k) x image-in e in
+          let (j, a, c, same, to) = link-place f.lower.sound u (feature_at g k) x image-in e in
           never j a c same
-      order-clash n (splits w x y h c d never) = order-no λ b. split-refutes (graphIn s) (graphIn g) n t b (come-together h c) (come-together h d) never
+      order-clash n (splits w x y h c d never) = order-no λ b. split-refutes (graph_in s) (graph_in g) n t b (come-together h c) (come-together h d) never
 
       -- If the next node's label is above that of its image and its links are followed, the node is passed.
-      pub searched-on : {later longer : List ℕ} {more : ℕ} → ((n : ℕ) → (tableLabels n t).le (label_at s u) (label_at g v) ≡ true) →
+      pub searched-on : {later longer : List ℕ} {more : ℕ} → ((n : ℕ) → (table_labels n t).le (label_at s u) (label_at g v) ≡ true) →
           Followed s g u v map queue count later longer more
-          (rowEnd g v) →
+          (row_end g v) →
           Searched t s g later longer more (head + 1)
       searched-on {later} {longer} {more} e d =
           record {
@@ -306,7 +306,7 @@ module _ {t s g : List ℕ} where
                     let (j, m, to) = p.leads k low high in (
                       j,
                       m,
-                      d.keeps (targetAt g k) (omega (arith, f.upper.sound.targets w k inside low high))
+                      d.keeps (target_at g k) (omega (arith, f.upper.sound.targets w k inside low high))
                           (λ z. omega (arith, sym to ∙ z, f.lower.sound.targets (get_or map w 0) j image m.s-low m.s-high)) ∙ to,
                     );
               }

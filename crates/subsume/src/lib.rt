@@ -2,7 +2,7 @@
 // the node of s that the same path leads to. This crate knows graphs in words and the order of a type table.
 
 ghost use Rattle.std.specs.Prelude.{◌≡◌, ℕ, ◌≤◌, ◌<◌, length};
-ghost use Rattle.lattice.specs.Labels.{tableLabels};
+ghost use Rattle.lattice.specs.Labels.{table_labels};
 ghost use Rattle.layout.specs.Builder.{stated};
 ghost use Rattle.layout.specs.Layout.{Recorded, size, rows_of};
 ghost use Rattle.subsume.specs.Following.{Follows, Queued, Sought};
@@ -95,7 +95,7 @@ fn follow<'a>(
 // Whether a label is below another: its type is, and its range lies inside.
 pub fn is_label_below(table: &[u8], a: Label, b: Label) -> bool
     requires { (a.kind < 64) × (b.kind < 64) }
-    ensures { (n : ℕ) → result ≡ (tableLabels n table.now).le (stated a) (stated b) }
+    ensures { (n : ℕ) → result ≡ (table_labels n table.now).le (stated a) (stated b) }
 {
     if a.lowest < b.lowest {
         return false;

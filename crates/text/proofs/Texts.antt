@@ -11,7 +11,7 @@ use lib.Dec.{ltb}
 use lib.ListN.{length, get_or, set, drop, length-append, length-set, drop_of_length-le}
 use lib.Seq.{sets, drop-cons}
 use Rattle.graphs.proofs.Stores.{sets-append}
-use Rattle.text.specs.Text.{Puts, decimal, decimalWithin, digitOf, hexadecimal}
+use Rattle.text.specs.Text.{Puts, decimal, decimal_within, digit_of, hexadecimal}
 
 -- one text behind another
 pub puts_then : {a b : List ℕ} {at middle next : ℕ} {old part new : List ℕ} →
@@ -69,7 +69,7 @@ word_more word i h = rw (add-one, drop-cons word i 0)
 -- Hexadecimal.
 
 pub hexadecimal-more : (bytes : List ℕ) (i high low : ℕ) → i < length bytes →
-    high ≡ digitOf (get_or bytes i 0 / 16) → low ≡ digitOf (get_or bytes i 0 % 16) →
+    high ≡ digit_of (get_or bytes i 0 / 16) → low ≡ digit_of (get_or bytes i 0 % 16) →
     hexadecimal (drop i bytes) ≡ high ∷ low ∷ hexadecimal (drop (i + 1) bytes)
 unfolding hexadecimal
 hexadecimal-more bytes i high low h e d =
@@ -100,26 +100,26 @@ cond-else true x y z h = refl
 cond-else false x y z h = h refl
 
 -- A limit of digits does not matter where it is above the number itself.
-within-any : (j k n : ℕ) → n < j → n < k → decimalWithin j n ≡ decimalWithin k n
-unfolding decimalWithin
+within-any : (j k n : ℕ) → n < j → n < k → decimal_within j n ≡ decimal_within k n
+unfolding decimal_within
 within-any zero k n hj hk = absurd (omega arith)
 within-any (suc j) zero n hj hk = absurd (omega arith)
-within-any (suc j) (suc k) n hj hk = cond-else (ltb n 10) (digitOf n ∷ []) _ _ λ e.
+within-any (suc j) (suc k) n hj hk = cond-else (ltb n 10) (digit_of n ∷ []) _ _ λ e.
     let h : 10 ≤ n = ltb-false n 10 e in
-    ap (λ (l : List ℕ). l ++ (digitOf (n % 10) ∷ [])) (within-any j k (n / 10) (omega arith) (omega arith))
+    ap (λ (l : List ℕ). l ++ (digit_of (n % 10) ∷ [])) (within-any j k (n / 10) (omega arith) (omega arith))
 
-pub decimal-one : (n : ℕ) → n < 10 → decimal n ≡ digitOf n ∷ []
-unfolding decimalWithin
-decimal-one n h = ap (λ b. cond b (digitOf n ∷ []) (decimalWithin n (n / 10) ++ (digitOf (n % 10) ∷ []))) (lt-ltb n 10 h)
+pub decimal-one : (n : ℕ) → n < 10 → decimal n ≡ digit_of n ∷ []
+unfolding decimal_within
+decimal-one n h = ap (λ b. cond b (digit_of n ∷ []) (decimal_within n (n / 10) ++ (digit_of (n % 10) ∷ []))) (lt-ltb n 10 h)
 
-decimal-more : (n : ℕ) → 10 ≤ n → decimal n ≡ decimal (n / 10) ++ (digitOf (n % 10) ∷ [])
-unfolding decimalWithin
+decimal-more : (n : ℕ) → 10 ≤ n → decimal n ≡ decimal (n / 10) ++ (digit_of (n % 10) ∷ [])
+unfolding decimal_within
 decimal-more n h =
-    ap (λ b. cond b (digitOf n ∷ []) (decimalWithin n (n / 10) ++ (digitOf (n % 10) ∷ []))) (le-ltb n 10 h)
-    ∙ ap (λ (l : List ℕ). l ++ (digitOf (n % 10) ∷ [])) (within-any n (suc (n / 10)) (n / 10) (omega arith) (omega arith))
+    ap (λ b. cond b (digit_of n ∷ []) (decimal_within n (n / 10) ++ (digit_of (n % 10) ∷ []))) (le-ltb n 10 h)
+    ∙ ap (λ (l : List ℕ). l ++ (digit_of (n % 10) ∷ [])) (within-any n (suc (n / 10)) (n / 10) (omega arith) (omega arith))
 
 pub decimal-length : (n : ℕ) → 10 ≤ n → length (decimal n) ≡ length (decimal (n / 10)) + 1
-decimal-length n h = ap length (decimal-more n h) ∙ length-append (decimal (n / 10)) (digitOf (n % 10) ∷ [])
+decimal-length n h = ap length (decimal-more n h) ∙ length-append (decimal (n / 10)) (digit_of (n % 10) ∷ [])
 
 -- Numbers below ten times m have at most one digit more than those below m.
 shorter : (m k : ℕ) → ((n : ℕ) → n < m → length (decimal n) ≤ k) → (n : ℕ) → n < 10 * m → length (decimal n) ≤ suc k
@@ -134,13 +134,13 @@ pub decimal-short : (n : ℕ) → n < 10000 → length (decimal n) ≤ 4
 decimal-short = shorter 1000 3 (shorter 100 2 (shorter 10 1 λ n l. omega (arith, ap length (decimal-one n l))))
 
 -- the last digit of a number is put behind the others
-pub puts-last : (n : ℕ) {at next d : ℕ} {old part : List ℕ} → 10 ≤ n → Puts (decimal (n / 10)) at old next part → d ≡ digitOf (n % 10) →
+pub puts-last : (n : ℕ) {at next d : ℕ} {old part : List ℕ} → 10 ≤ n → Puts (decimal (n / 10)) at old next part → d ≡ digit_of (n % 10) →
     Puts (decimal n) at old (next + 1) (set part next d)
 puts-last n {at} {next} {d} {old} {part} h p e =
     subst (λ (text : List ℕ). Puts text at old (next + 1) (set part next d))
     (ap (λ (x : ℕ). decimal (n / 10) ++ (x ∷ [])) e ∙ sym (decimal-more n h)) (puts_then p (puts-byte next part d))
 
-pub puts-digit : (n at d : ℕ) (old : List ℕ) → n < 10 → d ≡ digitOf n → Puts (decimal n) at old (at + 1) (set old at d)
+pub puts-digit : (n at d : ℕ) (old : List ℕ) → n < 10 → d ≡ digit_of n → Puts (decimal n) at old (at + 1) (set old at d)
 puts-digit n at d old h e =
     subst (λ (text : List ℕ). Puts text at old (at + 1) (set old at d))
     (ap (λ (x : ℕ). x ∷ []) e ∙ sym (decimal-one n h)) (puts-byte at old d)

@@ -1,7 +1,7 @@
 // Numbers and words as text. Each function puts bytes into the output from `at` on and answers the next place. This crate knows bytes alone.
 
 ghost use Rattle.std.specs.Prelude.{◌≡◌, ◌+◌, ◌<◌, ◌≤◌, length};
-ghost use Rattle.text.specs.Text.{Puts, decimal, digitOf, hexadecimal};
+ghost use Rattle.text.specs.Text.{Puts, decimal, digit_of, hexadecimal};
 
 // Puts a word.
 pub fn put_word(word: &[u8], at: usize, out: &mut [u8]) -> usize
@@ -21,7 +21,7 @@ pub fn put_word(word: &[u8], at: usize, out: &mut [u8]) -> usize
 // The digit of a number below 16.
 fn digit(d: u8) -> u8
     requires { d < 16 }
-    ensures { result ≡ digitOf d }
+    ensures { result ≡ digit_of d }
 {
     if d < 10 { 48 + d } else { 87 + d }
 }

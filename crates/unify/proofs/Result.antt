@@ -17,27 +17,27 @@ use Rattle.graphs.specs.Unify.{
   any_of,
   holds,
   deep,
-  labelBeside,
-  nodesBeside,
-  classLabel,
-  className,
-  classGraph,
-  hasCycle,
-  hasClash,
+  label_beside,
+  nodes_beside,
+  class_label,
+  class_name,
+  class_graph,
+  has_cycle,
+  has_clash,
   Unified,
   cycle,
   clash,
   unified,
-  unificationBy,
+  unification_by,
 }
-use Rattle.graphs.specs.OfRows.{sameEither}
+use Rattle.graphs.specs.OfRows.{same_either}
 use Rattle.graphs.proofs.Walk.{none-some, some-injective, snoc-induction, follow-start, follow-last, walk-snoc}
 use Rattle.graphs.proofs.Lists.{from_member, from-range, tells-eqb, length_from}
-use Rattle.graphs.proofs.Search.{not-true-false, anyOf-true, anyOf-finds, same_test}
+use Rattle.graphs.proofs.Search.{not-true-false, any_of-true, any_of-finds, same_test}
 use Rattle.graphs.proofs.Form.Bisimilar.{Alike, absent, present, Bisimilar}
 use Rattle.graphs.proofs.Form.Invariant.{bisimilar-canonical}
 use Rattle.graphs.proofs.Unification.Beside.{
-  linkBeside,
+  link_beside,
   Leads,
   Operands,
   leads-nil,
@@ -46,20 +46,20 @@ use Rattle.graphs.proofs.Unification.Beside.{
   reached-listed,
   listed-reached,
 }
-use Rattle.graphs.proofs.Unification.ClassGraph.{classLink-source, classLink-of, name-classes, name-related}
+use Rattle.graphs.proofs.Unification.ClassGraph.{class_link-source, class_link-of, name-classes, name-related}
 use Rattle.graphs.proofs.Unification.Deep.{deep-walk, walk-deep, loop-walk}
 use Rattle.lattice.specs.Label.{Label, plain}
-use Rattle.lattice.specs.Labels.{meetRanged}
-use Rattle.layout.specs.Layout.{size, featureAt, label_at, graphIn}
+use Rattle.lattice.specs.Labels.{meet_ranged}
+use Rattle.layout.specs.Layout.{size, feature_at, label_at, graph_in}
 use Rattle.layout.proofs.Rows.{length-rows}
 use Rattle.layout.proofs.Places.{label-at, link-at, link-place, link-known}
 use Rattle.visits.specs.Walks.{Reaches, one, more, TargetsFirst}
 use Rattle.encode.specs.declared.Written.{Written}
-use Rattle.encode.specs.Encode.{yielding, writtenOut}
+use Rattle.encode.specs.Encode.{yielding, written_out}
 use Rattle.unify.specs.declared.Combined.TheVariants as combined
-use Rattle.merging.specs.Lowered.{labelOfClass, lowerBy}
+use Rattle.merging.specs.Lowered.{label_of_class, lower_by}
 use Rattle.merging.specs.Clash.{contradicts}
-use Rattle.unify.specs.Outcome.{combinedOf, unifiedOut, unifyingOut}
+use Rattle.unify.specs.Outcome.{combined_of, unified_out, unifying_out}
 use Rattle.merging.specs.Rows.{Operand, Merges}
 use Rattle.unify.proofs.Sides.{operands, number, Inside, inside-reached, reached-in, number_in, node_of, link-in}
 use Rattle.unify.proofs.Sharing.{class_of, one-related, related-one, class-sound, class-link, class-source, leads-own}
@@ -108,34 +108,34 @@ module _ (n : ℕ) (meets : ℕ → ℕ → ℕ) {a b graph : List ℕ} (left : 
   class = m.class
 
   abbrev rows : Graph Label ℕ
-  rows = graphIn graph
+  rows = graph_in graph
 
-  given : Operands eqb eqb (graphIn a) (from 0 (size a)) (graphIn b) (from 0 (size b))
+  given : Operands eqb eqb (graph_in a) (from 0 (size a)) (graph_in b) (from 0 (size b))
   given = operands left right
 
   abbrev name : ℕ ⊎ ℕ → ℕ ⊎ ℕ
-  name = className eqb eqb (graphIn a) (from 0 (size a)) (graphIn b) (from 0 (size b))
+  name = class_name eqb eqb (graph_in a) (from 0 (size a)) (graph_in b) (from 0 (size b))
 
   abbrev u : Graph Label (ℕ ⊎ ℕ)
-  u = classGraph (meetRanged meets) (plain (n - 1)) eqb eqb (graphIn a) (from 0 (size a)) (graphIn b) (from 0 (size b))
+  u = class_graph (meet_ranged meets) (plain (n - 1)) eqb eqb (graph_in a) (from 0 (size a)) (graph_in b) (from 0 (size b))
 
   abbrev clashes : Bool
-  clashes = hasClash (meetRanged meets) (plain (n - 1)) contradicts eqb eqb (graphIn a) (from 0 (size a)) (graphIn b) (from 0 (size b))
+  clashes = has_clash (meet_ranged meets) (plain (n - 1)) contradicts eqb eqb (graph_in a) (from 0 (size a)) (graph_in b) (from 0 (size b))
 
   -- The combination, with the nodes as numbers.
   abbrev joint : ℕ → ℕ → Unified Label (ℕ ⊎ ℕ)
-  joint k l = unificationBy (meetRanged meets) (plain (n - 1)) contradicts eqb eqb (graphIn a) (from 0 k) (graphIn b) (from 0 l)
+  joint k l = unification_by (meet_ranged meets) (plain (n - 1)) contradicts eqb eqb (graph_in a) (from 0 k) (graph_in b) (from 0 l)
 
   abbrev cls : ℕ ⊎ ℕ → ℕ
   cls = class_of left right m
 
-  tells : TellsApart sameEither
+  tells : TellsApart same_either
   tells = tells-beside given
 
-  listed : (x : ℕ ⊎ ℕ) → Inside left right x → Memᴰ x (nodesBeside (from 0 (size a)) (from 0 (size b)))
+  listed : (x : ℕ ⊎ ℕ) → Inside left right x → Memᴰ x (nodes_beside (from 0 (size a)) (from 0 (size b)))
   listed x i = reached-listed given x (inside-reached left right x i)
 
-  unlisted : (x : ℕ ⊎ ℕ) → Memᴰ x (nodesBeside (from 0 (size a)) (from 0 (size b))) → Inside left right x
+  unlisted : (x : ℕ ⊎ ℕ) → Memᴰ x (nodes_beside (from 0 (size a)) (from 0 (size b))) → Inside left right x
   unlisted x i = reached-in left right x (listed-reached given x i)
 
   -- Two nodes have one name exactly where they have one class.
@@ -147,19 +147,19 @@ module _ (n : ℕ) (meets : ℕ → ℕ → ℕ) {a b graph : List ℕ} (left : 
   class-name x y p q e =
       (name-related given x y (inside-reached left right x p) (inside-reached left right y q)).1 (one-related left right m x y p q e)
 
-  named-link : (x y : ℕ ⊎ ℕ) (f : ℕ) → Inside left right x → linkBeside (graphIn a) (graphIn b) x f ≡ some y →
+  named-link : (x y : ℕ ⊎ ℕ) (f : ℕ) → Inside left right x → link_beside (graph_in a) (graph_in b) x f ≡ some y →
       u.link (name x) f ≡ some (name y)
-  unfolding classGraph
+  unfolding class_graph
   named-link x y f i e =
-      classLink-of tells (linkBeside (graphIn a) (graphIn b)) (nodesBeside (from 0 (size a)) (from 0 (size b))) name
+      class_link-of tells (link_beside (graph_in a) (graph_in b)) (nodes_beside (from 0 (size a)) (from 0 (size b))) name
       (name-classes given) x y f (listed x i) e
 
   named-source : (c d : ℕ ⊎ ℕ) (f : ℕ) → u.link c f ≡ some d →
-      (x : ℕ ⊎ ℕ) × (y : ℕ ⊎ ℕ) × Inside left right x × (name x ≡ c) × (linkBeside (graphIn a) (graphIn b) x f ≡ some y) × (name y ≡ d)
-  unfolding classGraph
+      (x : ℕ ⊎ ℕ) × (y : ℕ ⊎ ℕ) × Inside left right x × (name x ≡ c) × (link_beside (graph_in a) (graph_in b) x f ≡ some y) × (name y ≡ d)
+  unfolding class_graph
   named-source c d f e =
-      let (x, y, i, p, l, q) = classLink-source tells (linkBeside (graphIn a) (graphIn b))
-      (nodesBeside (from 0 (size a)) (from 0 (size b))) name c d f e in
+      let (x, y, i, p, l, q) = class_link-source tells (link_beside (graph_in a) (graph_in b))
+      (nodes_beside (from 0 (size a)) (from 0 (size b))) name c d f e in
       (x, y, unlisted x i, p, l, q)
 
   -- Some node has the name c and the class i.
@@ -173,7 +173,7 @@ module _ (n : ℕ) (meets : ℕ → ℕ → ℕ) {a b graph : List ℕ} (left : 
   class-zero = omega (arith, m.closed.lowest 0 m.closed.rows.some)
 
   both-root : Both u.root 0
-  unfolding classGraph
+  unfolding class_graph
   both-root = (inl 0, root_in, refl, class-zero)
 
   both-in : (c : ℕ ⊎ ℕ) (i : ℕ) → Both c i → i < size a + size b
@@ -218,21 +218,21 @@ module _ (n : ℕ) (meets : ℕ → ℕ → ℕ) {a b graph : List ℕ} (left : 
 
   -- "A loop is a class that reaches itself."
 
-  cycle-is : hasCycle eqb eqb (graphIn a) (from 0 (size a)) (graphIn b) (from 0 (size b)) ≡
+  cycle-is : has_cycle eqb eqb (graph_in a) (from 0 (size a)) (graph_in b) (from 0 (size b)) ≡
       deep rows.link (size a + size b) 0
-  unfolding hasCycle classGraph
+  unfolding has_cycle class_graph
   cycle-is =
       deep-alike Both u rows both-links (length (from 0 (size a)) + length (from 0 (size b))) u.root 0 both-root ∙
       ap₂ (λ (i j : ℕ). deep rows.link (i + j) 0) (length_from 0 (size a)) (length_from 0 (size b))
 
   -- A path of either graph is a path of the graph of the classes.
-  class-walk : (p : List ℕ) (x : ℕ ⊎ ℕ) → Leads (graphIn a) (graphIn b) p x → walk rows p ≡ some (cls x)
+  class-walk : (p : List ℕ) (x : ℕ ⊎ ℕ) → Leads (graph_in a) (graph_in b) p x → walk rows p ≡ some (cls x)
   unfolding follow
   class-walk =
-      snoc-induction (λ p. (x : ℕ ⊎ ℕ) → Leads (graphIn a) (graphIn b) p x → walk rows p ≡ some (cls x))
-      (λ x e. start x (leads-nil (graphIn a) (graphIn b) x e))
+      snoc-induction (λ p. (x : ℕ ⊎ ℕ) → Leads (graph_in a) (graph_in b) p x → walk rows p ≡ some (cls x))
+      (λ x e. start x (leads-nil (graph_in a) (graph_in b) x e))
       (λ p f later y e.
-      let (x, l, d) = leads-last (graphIn a) (graphIn b) p f y e in
+      let (x, l, d) = leads-last (graph_in a) (graph_in b) p f y e in
       walk-snoc rows p f (later x l) ∙ class-link left right m x y f (reached-in left right x (p, l)) d)
     where
       start : (x : ℕ ⊎ ℕ) → (x ≡ inl 0) ⊎ (x ≡ inr 0) → walk rows [] ≡ some (cls x)
@@ -245,13 +245,13 @@ module _ (n : ℕ) (meets : ℕ → ℕ → ℕ) {a b graph : List ℕ} (left : 
       (f : ℕ) × (p : List ℕ) × (follow rows.link (some v) (f ∷ p) ≡ some w)
   unfolding follow
   reach-walk {v} (one l) = (
-    featureAt graph l.place,
+    feature_at graph l.place,
     [],
     link-at (class-sound left right m) v l.place l.inside l.low l.high ∙ ap some l.target_is,
   )
   reach-walk {v} (more l r) =
       let (f, p, e) = reach-walk r in (
-        featureAt graph l.place,
+        feature_at graph l.place,
         f ∷ p,
         ap (λ o. follow rows.link o (f ∷ p))
             (link-at (class-sound left right m) v l.place l.inside l.low l.high ∙
@@ -273,7 +273,7 @@ module _ (n : ℕ) (meets : ℕ → ℕ → ℕ) {a b graph : List ℕ} (left : 
       without (link-known (class-sound left right m) x f y (within (later x l)) d).1)
 
   pub cycle-found : (v : ℕ) → Reaches graph v v →
-      hasCycle eqb eqb (graphIn a) (from 0 (size a)) (graphIn b) (from 0 (size b)) ≡ true
+      has_cycle eqb eqb (graph_in a) (from 0 (size a)) (graph_in b) (from 0 (size b)) ≡ true
   cycle-found v r =
       let (v-in, own) = reach-own r in
       let (x, x-in, x-is) = node_of left right v v-in in
@@ -300,29 +300,29 @@ module _ (n : ℕ) (meets : ℕ → ℕ → ℕ) {a b graph : List ℕ} (left : 
           falls p w x (without (link-known (class-sound left right m) v f w (within i) d).1) (ap (λ o. follow rows.link o p) (sym d) ∙ e),
         )
 
-    pub cycle-none : hasCycle eqb eqb (graphIn a) (from 0 (size a)) (graphIn b) (from 0 (size b)) ≡ false
+    pub cycle-none : has_cycle eqb eqb (graph_in a) (from 0 (size a)) (graph_in b) (from 0 (size b)) ≡ false
     cycle-none =
-        not-true-false (hasCycle eqb eqb (graphIn a) (from 0 (size a)) (graphIn b) (from 0 (size b)))
+        not-true-false (has_cycle eqb eqb (graph_in a) (from 0 (size a)) (graph_in b) (from 0 (size b)))
         (λ e.
         let (p, x, k, w) = deep-walk rows.link (size a + size b) 0 (sym cycle-is ∙ e) in
         omega (arith, k, falls p 0 x m.closed.rows.some w, sorted.inside 0 (within m.closed.rows.some), m.built.sized))
 
   -- The labels.
 
-  node-label : (x : ℕ) → x < size a + size b → label_at graph x ≡ labelOfClass m.labels (get_or class x 0)
+  node-label : (x : ℕ) → x < size a + size b → label_at graph x ≡ label_of_class m.labels (get_or class x 0)
   node-label x h = m.built.rows.labels-are x h
 
-  own-label : (i : ℕ) → i < size a + size b → get_or class i 0 ≡ i → rows.label i ≡ labelOfClass m.labels i
-  own-label i h own = label-at graph i (within h) ∙ node-label i h ∙ ap (labelOfClass m.labels) own
+  own-label : (i : ℕ) → i < size a + size b → get_or class i 0 ≡ i → rows.label i ≡ label_of_class m.labels i
+  own-label i h own = label-at graph i (within h) ∙ node-label i h ∙ ap (label_of_class m.labels) own
 
   both-labels : (c : ℕ ⊎ ℕ) (i : ℕ) → Both c i → u.label c ≡ rows.label i
-  unfolding classGraph classLabel
+  unfolding class_graph class_label
   both-labels c i (x, x-in, x-name, x-class) =
       fold-left step (plain (n - 1)) (from 0 (size a)) (from 0 (size b)) ∙
-      fold_same (λ v. step (inl v)) (lowerBy meets a class 0 i) (foldr (λ v. step (inr v)) (plain (n - 1)) (from 0 (size b)))
+      fold_same (λ v. step (inl v)) (lower_by meets a class 0 i) (foldr (λ v. step (inr v)) (plain (n - 1)) (from 0 (size b)))
       (from 0 (size a)) in_left ∙
-      ap (λ (d : Label). foldr (lowerBy meets a class 0 i) d (from 0 (size a)))
-      (fold_same (λ v. step (inr v)) (lowerBy meets b class (size a) i) (plain (n - 1)) (from 0 (size b)) in_right) ∙
+      ap (λ (d : Label). foldr (lower_by meets a class 0 i) d (from 0 (size a)))
+      (fold_same (λ v. step (inr v)) (lower_by meets b class (size a) i) (plain (n - 1)) (from 0 (size b)) in_right) ∙
       sym (m.lowers i i-in) ∙ sym (own-label i i-in own)
     where
       i-in : i < size a + size b
@@ -334,29 +334,29 @@ module _ (n : ℕ) (meets : ℕ → ℕ → ℕ) {a b graph : List ℕ} (left : 
 
       step : ℕ ⊎ ℕ → Label → Label
       step y d =
-          cond (sameEither (name y) c) (meetRanged meets (labelBeside (graphIn a).label (graphIn b).label y) d) d
+          cond (same_either (name y) c) (meet_ranged meets (label_beside (graph_in a).label (graph_in b).label y) d) d
 
       -- Both accounts agree on which nodes are in the class.
-      test : (y : ℕ ⊎ ℕ) → Inside left right y → sameEither (name y) c ≡ eqb (cls y) i
+      test : (y : ℕ ⊎ ℕ) → Inside left right y → same_either (name y) c ≡ eqb (cls y) i
       test y y-in =
-          same_test (sameEither (name y) c) (eqb (cls y) i)
+          same_test (same_either (name y) c) (eqb (cls y) i)
           (λ e. eq-eqb (cls y) i (name-class y x y-in x-in ((tells (name y) c).0 e ∙ sym x-name) ∙ x-class))
           (λ e. (tells (name y) c).1 (class-name y x y-in x-in (eqb-true (cls y) i e ∙ sym x-class) ∙ x-name))
 
-      in_left : (v : ℕ) (d : Label) → Memᴰ v (from 0 (size a)) → step (inl v) d ≡ lowerBy meets a class 0 i v d
+      in_left : (v : ℕ) (d : Label) → Memᴰ v (from 0 (size a)) → step (inl v) d ≡ lower_by meets a class 0 i v d
       in_left v d k =
           let v-in : v < size a = omega (arith, from-range 0 (size a) v k) in
           let e : v ≡ 0 + v = omega arith in
-          ap₂ (λ (t : Bool) (l : Label). cond t (meetRanged meets l d) d)
+          ap₂ (λ (t : Bool) (l : Label). cond t (meet_ranged meets l d) d)
           (test (inl v) v-in ∙ ap (λ (w : ℕ). eqb (get_or class w 0) i) e) (label-at a v v-in)
 
-      in_right : (v : ℕ) (d : Label) → Memᴰ v (from 0 (size b)) → step (inr v) d ≡ lowerBy meets b class (size a) i v d
+      in_right : (v : ℕ) (d : Label) → Memᴰ v (from 0 (size b)) → step (inr v) d ≡ lower_by meets b class (size a) i v d
       in_right v d k =
           let v-in : v < size b = omega (arith, from-range 0 (size b) v k) in
-          ap₂ (λ (t : Bool) (l : Label). cond t (meetRanged meets l d) d) (test (inr v) v-in) (label-at b v v-in)
+          ap₂ (λ (t : Bool) (l : Label). cond t (meet_ranged meets l d) d) (test (inr v) v-in) (label-at b v v-in)
 
   alike : Bisimilar Both u rows
-  unfolding classGraph
+  unfolding class_graph
   alike =
       record {
         root = both-root;
@@ -368,8 +368,8 @@ module _ (n : ℕ) (meets : ℕ → ℕ → ℕ) {a b graph : List ℕ} (left : 
             sym x-name ∙ class-name x y x-in y-in (x-class ∙ e ∙ sym y-class) ∙ y-name;
       }
 
-  same-form : canonical sameEither u ≡ canonical eqb (graphIn graph)
-  same-form = bisimilar-canonical sameEither eqb tells tells-eqb Both u rows alike
+  same-form : canonical same_either u ≡ canonical eqb (graph_in graph)
+  same-form = bisimilar-canonical same_either eqb tells tells-eqb Both u rows alike
 
   -- "A clash is a class whose meet is type 0", "and an empty overlap is a clash".
 
@@ -381,9 +381,9 @@ module _ (n : ℕ) (meets : ℕ → ℕ → ℕ) {a b graph : List ℕ} (left : 
       sym (node-label (number (size a) x) h)
 
   pub clash-is : clashes ≡ any_of (from 0 (size graph)) (λ x. contradicts (label_at graph x))
-  unfolding hasClash
+  unfolding has_clash
   clash-is =
-      same_test (any_of (nodesBeside (from 0 (size a)) (from 0 (size b))) here)
+      same_test (any_of (nodes_beside (from 0 (size a)) (from 0 (size b))) here)
       (any_of (from 0 (size graph)) there) forth back
     where
       here : ℕ ⊎ ℕ → Bool
@@ -392,19 +392,19 @@ module _ (n : ℕ) (meets : ℕ → ℕ → ℕ) {a b graph : List ℕ} (left : 
       there : ℕ → Bool
       there x = contradicts (label_at graph x)
 
-      forth : any_of (nodesBeside (from 0 (size a)) (from 0 (size b))) here ≡ true → any_of (from 0 (size graph)) there ≡ true
+      forth : any_of (nodes_beside (from 0 (size a)) (from 0 (size b))) here ≡ true → any_of (from 0 (size graph)) there ≡ true
       forth e =
-          let (x, i, d) = anyOf-true here (nodesBeside (from 0 (size a)) (from 0 (size b))) e in
+          let (x, i, d) = any_of-true here (nodes_beside (from 0 (size a)) (from 0 (size b))) e in
           let x-in = unlisted x i in
-          anyOf-finds there (from 0 (size graph)) (number (size a) x)
+          any_of-finds there (from 0 (size graph)) (number (size a) x)
           (from_member 0 (size graph) (number (size a) x) (omega arith) (omega (arith, within (number_in left right x x-in))))
           (ap contradicts (sym (label_is x x-in)) ∙ d)
 
-      back : any_of (from 0 (size graph)) there ≡ true → any_of (nodesBeside (from 0 (size a)) (from 0 (size b))) here ≡ true
+      back : any_of (from 0 (size graph)) there ≡ true → any_of (nodes_beside (from 0 (size a)) (from 0 (size b))) here ≡ true
       back e =
-          let (i, k, d) = anyOf-true there (from 0 (size graph)) e in
+          let (i, k, d) = any_of-true there (from 0 (size graph)) e in
           let (x, x-in, x-is) = node_of left right i (without (omega (arith, from-range 0 (size graph) i k))) in
-          anyOf-finds here (nodesBeside (from 0 (size a)) (from 0 (size b))) x (listed x x-in)
+          any_of-finds here (nodes_beside (from 0 (size a)) (from 0 (size b))) x (listed x x-in)
           (ap contradicts (label_is x x-in ∙ ap (label_at graph) x-is) ∙ d)
 
   -- What is answered.
@@ -413,26 +413,26 @@ module _ (n : ℕ) (meets : ℕ → ℕ → ℕ) {a b graph : List ℕ} (left : 
   answered s t = cond s cycle (cond t clash (unified u))
 
   -- There are as many nodes as rows.
-  out-is : (old : List ℕ) → unifiedOut (joint (size a) (size b)) old ≡ unifyingOut n meets a b old
-  out-is old = sym (ap₂ (λ (k l : ℕ). unifiedOut (joint k l) old) (length-rows a 0 (size a)) (length-rows b 0 (size b)))
+  out-is : (old : List ℕ) → unified_out (joint (size a) (size b)) old ≡ unifying_out n meets a b old
+  out-is old = sym (ap₂ (λ (k l : ℕ). unified_out (joint k l) old) (length-rows a 0 (size a)) (length-rows b 0 (size b)))
 
-  pub answers-cycle : (v : ℕ) → Reaches graph v v → (old : List ℕ) → yielding combined.Cycle old ≡ unifyingOut n meets a b old
-  unfolding unificationBy unifiedOut
-  answers-cycle v r old = sym (ap (λ (s : Bool). unifiedOut (answered s clashes) old) (cycle-found v r)) ∙ out-is old
+  pub answers-cycle : (v : ℕ) → Reaches graph v v → (old : List ℕ) → yielding combined.Cycle old ≡ unifying_out n meets a b old
+  unfolding unification_by unified_out
+  answers-cycle v r old = sym (ap (λ (s : Bool). unified_out (answered s clashes) old) (cycle-found v r)) ∙ out-is old
 
   module _ {order : List ℕ} {place : ℕ → ℕ} (sorted : TargetsFirst graph order place) where
     answered-none : (t : Bool) → clashes ≡ t → joint (size a) (size b) ≡ answered false t
-    unfolding unificationBy
+    unfolding unification_by
     answered-none t e = ap₂ answered (cycle-none sorted) e
 
     pub answers-clash : any_of (from 0 (size graph)) (λ x. contradicts (label_at graph x)) ≡ true → (old : List ℕ) →
-        yielding combined.Clash old ≡ unifyingOut n meets a b old
-    unfolding unifiedOut
-    answers-clash found old = sym (ap (λ z. unifiedOut z old) (answered-none true (clash-is ∙ found))) ∙ out-is old
+        yielding combined.Clash old ≡ unifying_out n meets a b old
+    unfolding unified_out
+    answers-clash found old = sym (ap (λ z. unified_out z old) (answered-none true (clash-is ∙ found))) ∙ out-is old
 
     pub answers-written : any_of (from 0 (size graph)) (λ x. contradicts (label_at graph x)) ≡ false → (old : List ℕ) {w : Written} {new : List ℕ} →
-        yielding w new ≡ writtenOut (canonical eqb (graphIn graph)) old → yielding (combined.Written w) new ≡ unifyingOut n meets a b old
-    unfolding unifiedOut
+        yielding w new ≡ written_out (canonical eqb (graph_in graph)) old → yielding (combined.Written w) new ≡ unifying_out n meets a b old
+    unfolding unified_out
     answers-written clear old yields =
-        ap combinedOf (yields ∙ ap (λ (k : Canonical Label). writtenOut k old) (sym same-form)) ∙
-        sym (ap (λ z. unifiedOut z old) (answered-none false (clash-is ∙ clear))) ∙ out-is old
+        ap combined_of (yields ∙ ap (λ (k : Canonical Label). written_out k old) (sym same-form)) ∙
+        sym (ap (λ z. unified_out z old) (answered-none false (clash-is ∙ clear))) ∙ out-is old

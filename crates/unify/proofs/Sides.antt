@@ -11,8 +11,8 @@ use lib.Dec.{eqb}
 use lib.ListN.{get_or}
 use Rattle.graphs.specs.Rows.{from}
 use Rattle.graphs.proofs.Lists.{tells-eqb}
-use Rattle.graphs.proofs.Unification.Beside.{linkBeside, ReachedBeside, Operands}
-use Rattle.layout.specs.Layout.{size, linksFrom, featureAt, targetAt, graphIn}
+use Rattle.graphs.proofs.Unification.Beside.{link_beside, ReachedBeside, Operands}
+use Rattle.layout.specs.Layout.{size, links_from, feature_at, target_at, graph_in}
 use Rattle.layout.proofs.Places.{link-at, link-place, link-known}
 use Rattle.layout.proofs.Reaching.{nodes-listed, reached-inside}
 use Rattle.classes.specs.Classes.{At}
@@ -22,26 +22,26 @@ use Rattle.unify.proofs.Laying.{origin-in, origin-feature, origin-target, placed
 module _ {n : ℕ} {g : List ℕ} (h : Operand n g) where
   -- a link of the graph stands at a place of the pool, and a place of the pool is a link of the graph
   module _ {shift : ℕ} (few : shift ≤ 255) {start end pool : List ℕ} (p : Placed g shift start end pool) where
-    side-in : (v w f : ℕ) → v < size g → (graphIn g).link v f ≡ some w →
-        (j : ℕ) × At start end (shift + v) j × (featureAt pool j ≡ f) × (targetAt pool j ≡ shift + w)
+    side-in : (v w f : ℕ) → v < size g → (graph_in g).link v f ≡ some w →
+        (j : ℕ) × At start end (shift + v) j × (feature_at pool j ≡ f) × (target_at pool j ≡ shift + w)
     side-in v w f i e =
         let (k, low, high, feature, target) = link-place h.recorded.sound v f w i e in
         let (j, place, a, b) = placed-link h.recorded few p v k i low high in
         (j, place, a ∙ feature, omega (arith, b, target))
 
     side-of : (v j : ℕ) → v < size g → At start end (shift + v) j →
-        (w : ℕ) × (w < size g) × ((graphIn g).link v (featureAt pool j) ≡ some w) × (shift + w ≡ targetAt pool j)
+        (w : ℕ) × (w < size g) × ((graph_in g).link v (feature_at pool j) ≡ some w) × (shift + w ≡ target_at pool j)
     side-of v j i place =
         let (low, high) = origin-in h.recorded few p v j i place in (
-          targetAt g (linksFrom g v + (j - get_or start (shift + v) 0)),
-          h.recorded.sound.targets v (linksFrom g v + (j - get_or start (shift + v) 0)) i low high,
-          ap ((graphIn g).link v) (origin-feature h.recorded few p v j i place) ∙
-              link-at h.recorded.sound v (linksFrom g v + (j - get_or start (shift + v) 0)) i low high,
+          target_at g (links_from g v + (j - get_or start (shift + v) 0)),
+          h.recorded.sound.targets v (links_from g v + (j - get_or start (shift + v) 0)) i low high,
+          ap ((graph_in g).link v) (origin-feature h.recorded few p v j i place) ∙
+              link-at h.recorded.sound v (links_from g v + (j - get_or start (shift + v) 0)) i low high,
           omega (arith, origin-target h.recorded few p v j i place),
         )
 
 pub operands : {n : ℕ} {a b : List ℕ} → Operand n a → Operand n b →
-    Operands eqb eqb (graphIn a) (from 0 (size a)) (graphIn b) (from 0 (size b))
+    Operands eqb eqb (graph_in a) (from 0 (size a)) (graph_in b) (from 0 (size b))
 operands left right =
     record {
       tells-left = tells-eqb;
@@ -61,11 +61,11 @@ module _ {n : ℕ} {a b : List ℕ} (left : Operand n a) (right : Operand n b) w
   Inside (inl v) = v < size a
   Inside (inr v) = v < size b
 
-  pub inside-reached : (x : ℕ ⊎ ℕ) → Inside x → ReachedBeside (graphIn a) (graphIn b) x
+  pub inside-reached : (x : ℕ ⊎ ℕ) → Inside x → ReachedBeside (graph_in a) (graph_in b) x
   inside-reached (inl v) i = left.reached v i
   inside-reached (inr v) i = right.reached v i
 
-  pub reached-in : (x : ℕ ⊎ ℕ) → ReachedBeside (graphIn a) (graphIn b) x → Inside x
+  pub reached-in : (x : ℕ ⊎ ℕ) → ReachedBeside (graph_in a) (graph_in b) x → Inside x
   reached-in (inl v) r = reached-inside left.recorded.sound v r
   reached-in (inr v) r = reached-inside right.recorded.sound v r
 
@@ -92,29 +92,29 @@ module _ {n : ℕ} {a b : List ℕ} (left : Operand n a) (right : Operand n b) w
     none = omega arith
 
     -- A link of a node stands at a place of the pool.
-    pub link-in : (x y : ℕ ⊎ ℕ) (f : ℕ) → Inside x → linkBeside (graphIn a) (graphIn b) x f ≡ some y →
-        Inside y × ((j : ℕ) × At start end (number (size a) x) j × (featureAt pool j ≡ f) × (targetAt pool j ≡ number (size a) y))
+    pub link-in : (x y : ℕ ⊎ ℕ) (f : ℕ) → Inside x → link_beside (graph_in a) (graph_in b) x f ≡ some y →
+        Inside y × ((j : ℕ) × At start end (number (size a) x) j × (feature_at pool j ≡ f) × (target_at pool j ≡ number (size a) y))
     link-in (inl v) y f i e =
-        let (w, d, q) = (map-eq-some_iff inl ((graphIn a).link v f)).0 e in
+        let (w, d, q) = (map-eq-some_iff inl ((graph_in a).link v f)).0 e in
         let (j, place, feature, target) = side-in left none first v w f i d in
         let z : 0 + v ≡ v = omega arith in
         subst
         (λ (y : ℕ ⊎ ℕ).
-        Inside y × ((j : ℕ) × At start end v j × (featureAt pool j ≡ f) × (targetAt pool j ≡ number (size a) y))) q (
+        Inside y × ((j : ℕ) × At start end v j × (feature_at pool j ≡ f) × (target_at pool j ≡ number (size a) y))) q (
           (link-known left.recorded.sound v f w i d).1,
           (j, subst (λ (x : ℕ). At start end x j) z place, feature, omega (arith, target)),
         )
     link-in (inr v) y f i e =
-        let (w, d, q) = (map-eq-some_iff inr ((graphIn b).link v f)).0 e in
+        let (w, d, q) = (map-eq-some_iff inr ((graph_in b).link v f)).0 e in
         let (j, place, feature, target) = side-in right left.recorded.small second v w f i d in
         subst
         (λ (y : ℕ ⊎ ℕ).
-        Inside y × ((j : ℕ) × At start end (size a + v) j × (featureAt pool j ≡ f) × (targetAt pool j ≡ number (size a) y))) q
+        Inside y × ((j : ℕ) × At start end (size a + v) j × (feature_at pool j ≡ f) × (target_at pool j ≡ number (size a) y))) q
         ((link-known right.recorded.sound v f w i d).1, (j, place, feature, target))
 
     -- A place of the pool is a link of its node.
     pub link-of : (x : ℕ ⊎ ℕ) (j : ℕ) → Inside x → At start end (number (size a) x) j →
-        (y : ℕ ⊎ ℕ) × Inside y × (linkBeside (graphIn a) (graphIn b) x (featureAt pool j) ≡ some y) × (number (size a) y ≡ targetAt pool j)
+        (y : ℕ ⊎ ℕ) × Inside y × (link_beside (graph_in a) (graph_in b) x (feature_at pool j) ≡ some y) × (number (size a) y ≡ target_at pool j)
     link-of (inl v) j i place =
         let z : v ≡ 0 + v = omega arith in
         let (w, w-in, l, e) = side-of left none first v j i (subst (λ (x : ℕ). At start end x j) z place) in

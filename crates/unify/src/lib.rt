@@ -4,12 +4,12 @@
 // result.
 
 ghost use Rattle.std.specs.Prelude.{◌≡◌, List, ℕ, ◌+◌, ◌≤◌, ◌<◌, length};
-ghost use Rattle.bounds.specs.Sets.{meetIn};
+ghost use Rattle.bounds.specs.Sets.{meet_in};
 ghost use Rattle.layout.specs.Layout.{Sound, size};
 ghost use Rattle.encode.specs.Encode.{yielding};
 ghost use Rattle.merging.specs.Lowered.{Meeting};
-ghost use Rattle.unify.specs.Outcome.{unifyingOut};
-ghost use Rattle.merging.specs.Rows.{Holding, Merges, Operand, Spacious, linksBoth};
+ghost use Rattle.unify.specs.Outcome.{unifying_out};
+ghost use Rattle.merging.specs.Rows.{Holding, Merges, Operand, Spacious, links_both};
 
 use encode::Written;
 use layout::HEADER;
@@ -53,7 +53,7 @@ fn merge_within<'a>(
     requires operand { Operand n a.now }
     requires operand_2 { Operand n b.now }
     requires spacious { Spacious a.now b.now (length pool.old) (length waiting.old) × Holding a.now b.now (length graph.old) }
-    ensures { Merges n (meetIn n sets.now cells.now) a.now b.now graph.new }
+    ensures { Merges n (meet_in n sets.now cells.now) a.now b.now graph.new }
 {
     let mut start = [0u16; 510];
     let mut end = [0u16; 510];
@@ -85,8 +85,8 @@ fn merge_small<'a>(
     requires operand { Operand n a.now }
     requires operand_2 { Operand n b.now }
     requires holding { Holding a.now b.now (length graph.old) }
-    requires b_bound { (size a.now + size b.now ≤ 20) × (linksBoth a.now b.now ≤ 48) }
-    ensures { Merges n (meetIn n sets.now cells.now) a.now b.now graph.new }
+    requires b_bound { (size a.now + size b.now ≤ 20) × (links_both a.now b.now ≤ 48) }
+    ensures { Merges n (meet_in n sets.now cells.now) a.now b.now graph.new }
 {
     let mut pool = [0u16; HEADER * SMALL_NODES + SMALL_LINKS + SMALL_LINKS * (SMALL_NODES - 1)];
     let mut waiting = [0u32; SMALL_LINKS + 1];
@@ -107,8 +107,8 @@ fn merge_middle<'a>(
     requires operand { Operand n a.now }
     requires operand_2 { Operand n b.now }
     requires holding { Holding a.now b.now (length graph.old) }
-    requires b_bound { (size a.now + size b.now ≤ 80) × (linksBoth a.now b.now ≤ 240) }
-    ensures { Merges n (meetIn n sets.now cells.now) a.now b.now graph.new }
+    requires b_bound { (size a.now + size b.now ≤ 80) × (links_both a.now b.now ≤ 240) }
+    ensures { Merges n (meet_in n sets.now cells.now) a.now b.now graph.new }
 {
     let mut pool = [0u16; HEADER * MIDDLE_NODES + MIDDLE_LINKS + 64 * (MIDDLE_NODES - 1)];
     let mut waiting = [0u32; MIDDLE_LINKS + 1];
@@ -129,7 +129,7 @@ fn merge_large<'a>(
     requires operand { Operand n a.now }
     requires operand_2 { Operand n b.now }
     requires holding { Holding a.now b.now (length graph.old) }
-    ensures { Merges n (meetIn n sets.now cells.now) a.now b.now graph.new }
+    ensures { Merges n (meet_in n sets.now cells.now) a.now b.now graph.new }
 {
     let mut pool = [0u16; HEADER * NODES + LINKS + 64 * (NODES - 1)];
     let mut waiting = [0u32; LINKS + 1];
@@ -150,7 +150,7 @@ fn merge<'a>(
     requires operand { Operand n a.now }
     requires operand_2 { Operand n b.now }
     requires holding { Holding a.now b.now (length graph.old) }
-    ensures { Merges n (meetIn n sets.now cells.now) a.now b.now graph.new }
+    ensures { Merges n (meet_in n sets.now cells.now) a.now b.now graph.new }
 {
     let nodes = a[0] as usize + b[0] as usize;
     let links = operands::link_count(a, b);
@@ -173,7 +173,7 @@ fn merge<'a>(
 fn tell(graph: &[u16], out: &mut [u8]) -> Combined
     requires { Sound graph.now }
     ensures { (n : ℕ) (meets : ℕ → ℕ → ℕ) (a b : List ℕ) → Operand n a → Operand n b → Merges n meets a b graph.now →
-        yielding result out.new ≡ unifyingOut n meets a b out.old }
+        yielding result out.new ≡ unifying_out n meets a b out.old }
 {
     let mut order = [0u16; 510];
     if visits::sorting::sort_targets_first(graph, &mut order) {
@@ -198,8 +198,8 @@ fn unify_middle<'a>(
     requires meeting { Meeting n sets.now cells.now }
     requires operand { Operand n a.now }
     requires operand_2 { Operand n b.now }
-    requires b_bound { (size a.now + size b.now ≤ 80) × (linksBoth a.now b.now ≤ 240) }
-    ensures { yielding result out.new ≡ unifyingOut n (meetIn n sets.now cells.now) a.now b.now out.old }
+    requires b_bound { (size a.now + size b.now ≤ 80) × (links_both a.now b.now ≤ 240) }
+    ensures { yielding result out.new ≡ unifying_out n (meet_in n sets.now cells.now) a.now b.now out.old }
 {
     let mut graph = [0u16; 2 + (1 + HEADER) * MIDDLE_NODES + MIDDLE_LINKS];
     merge(n, sets, cells, a, b, &mut graph);
@@ -219,7 +219,7 @@ fn unify_large<'a>(
     requires meeting { Meeting n sets.now cells.now }
     requires operand { Operand n a.now }
     requires operand_2 { Operand n b.now }
-    ensures { yielding result out.new ≡ unifyingOut n (meetIn n sets.now cells.now) a.now b.now out.old }
+    ensures { yielding result out.new ≡ unifying_out n (meet_in n sets.now cells.now) a.now b.now out.old }
 {
     let mut graph = [0u16; 2 + (1 + HEADER) * NODES + LINKS];
     merge(n, sets, cells, a, b, &mut graph);
@@ -239,7 +239,7 @@ pub fn unify<'a>(
     requires meeting { Meeting n sets.now cells.now }
     requires operand { Operand n a.now }
     requires operand_2 { Operand n b.now }
-    ensures { yielding result out.new ≡ unifyingOut n (meetIn n sets.now cells.now) a.now b.now out.old }
+    ensures { yielding result out.new ≡ unifying_out n (meet_in n sets.now cells.now) a.now b.now out.old }
 {
     if a[0] as usize + b[0] as usize <= MIDDLE_NODES {
         if operands::link_count(a, b) <= MIDDLE_LINKS {

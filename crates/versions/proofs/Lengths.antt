@@ -8,18 +8,18 @@ use Rattle.replies.specs.declared.Reply.{Reply}
 use Rattle.replies.specs.declared.Reply.TheVariants.{Length}
 use Rattle.replies.specs.Reply.{resulting, length_of, Bounded}
 use Rattle.gathering.proofs.Told.{none-some}
-use Rattle.versions.specs.State.{Made, stopped, takenBy, taken}
-use Rattle.versions.specs.Promise.{onwardBy, onward}
+use Rattle.versions.specs.State.{Made, stopped, taken_by, taken}
+use Rattle.versions.specs.Promise.{onward_by, onward}
 
 module _ (r : Reply) (no : length_of r ≡ none) where
   pub none-bounded : (most : ℕ) → Bounded r most
   none-bounded most l e = none-some (sym no ∙ ap length_of e)
 
   pub none-taken : (out : List ℕ) → taken (resulting r out) ≡ stopped r
-  none-taken out = ap (λ (o : Option ℕ). takenBy o (resulting r out)) no
+  none-taken out = ap (λ (o : Option ℕ). taken_by o (resulting r out)) no
 
   pub none-onward : (next : ℕ → Made) → onward r next ≡ stopped r
-  none-onward next = ap (λ (o : Option ℕ). onwardBy o r next) no
+  none-onward next = ap (λ (o : Option ℕ). onward_by o r next) no
 
 -- Equal replies tell equal lengths.
 pub length-same : {l k : ℕ} → Length l ≡ Length k → l ≡ k

@@ -11,7 +11,7 @@ use lib.ListN.{length, length-append}
 use lib.Seq.{append_snoc}
 use Rattle.replies.specs.declared.Reply.{Reply}
 use Rattle.replies.specs.declared.Reply.TheVariants.{NoStoreRoom}
-use Rattle.versions.specs.State.{Made, made, stopped, and_then, recordIn, Programs, twoBytes, mapOf, measured, state_of, combination, differenceOf, differences, within, stored, joined, wayFrom, takeMeasured, restored}
+use Rattle.versions.specs.State.{Made, made, stopped, and_then, record_in, Programs, two_bytes, map_of, measured, state_of, combination, difference_of, differences, within, stored, joined, way_from, take_measured, restored}
 use Rattle.versions.specs.Promise.{packed}
 
 -- A state that fits is made, and a state that does not fit stops.
@@ -26,13 +26,13 @@ within-short room bytes h = ap (λ (b : Bool). cond b (made bytes) (stopped NoSt
 module _ (n : ℕ) (t : List ℕ) where
   -- A state is made: `bytes` stand already, and the differences of `ps` come behind them.
 
-  pub stored-packed : (room : ℕ) (part : List ℕ) (ps : Programs) → stored n t room part ps ≡ packed n t room (twoBytes (mapOf ps) ++ measured part) part ps
+  pub stored-packed : (room : ℕ) (part : List ℕ) (ps : Programs) → stored n t room part ps ≡ packed n t room (two_bytes (map_of ps) ++ measured part) part ps
   unfolding stored state_of
   stored-packed room part ps = go (differences n t part ps)
     where
-      go : (m : Made) → (and_then m λ ds. within room (twoBytes (mapOf ps) ++ (measured part ++ ds))) ≡
-          (and_then m λ ds. within room (twoBytes (mapOf ps) ++ measured part ++ ds))
-      go (made ds) = ap (within room) (sym (append_assoc (twoBytes (mapOf ps)) (measured part) ds))
+      go : (m : Made) → (and_then m λ ds. within room (two_bytes (map_of ps) ++ (measured part ++ ds))) ≡
+          (and_then m λ ds. within room (two_bytes (map_of ps) ++ measured part ++ ds))
+      go (made ds) = ap (within room) (sym (append_assoc (two_bytes (map_of ps)) (measured part) ds))
       go (stopped r) = refl
 
   pub packed-end : (room : ℕ) (bytes part : List ℕ) → packed n t room bytes part [] ≡ within room bytes
@@ -43,13 +43,13 @@ module _ (n : ℕ) (t : List ℕ) where
   unfolding differences
   packed-absent room bytes part ps = refl
 
-  pub packed-stops : (room : ℕ) (bytes part p : List ℕ) (ps : Programs) (r : Reply) → differenceOf n t part p ≡ stopped r →
+  pub packed-stops : (room : ℕ) (bytes part p : List ℕ) (ps : Programs) (r : Reply) → difference_of n t part p ≡ stopped r →
       packed n t room bytes part (some p ∷ ps) ≡ stopped r
   unfolding differences
   packed-stops room bytes part p ps r e =
       ap (λ (m : Made). and_then (and_then m λ d. and_then (differences n t part ps) λ ds. made (measured d ++ ds)) λ ds. within room (bytes ++ ds)) e
 
-  pub packed-present : (room : ℕ) (bytes part p d : List ℕ) (ps : Programs) → differenceOf n t part p ≡ made d →
+  pub packed-present : (room : ℕ) (bytes part p d : List ℕ) (ps : Programs) → difference_of n t part p ≡ made d →
       packed n t room bytes part (some p ∷ ps) ≡ packed n t room (bytes ++ measured d) part ps
   unfolding differences
   packed-present room bytes part p d ps e =
@@ -75,30 +75,30 @@ module _ (n : ℕ) (t : List ℕ) where
 
   pub way_step : (room : ℕ) (done ahead : Programs) (part : Option (List ℕ)) (state p c s : List ℕ) → joined n t part p ≡ made c →
       stored n t room c (done ++ some p ∷ []) ≡ made s →
-      wayFrom n t room done part state (some p ∷ ahead) ≡ wayFrom n t room (done ++ some p ∷ []) (some c) s ahead
-  unfolding wayFrom
+      way_from n t room done part state (some p ∷ ahead) ≡ way_from n t room (done ++ some p ∷ []) (some c) s ahead
+  unfolding way_from
   way_step room done ahead part state p c s e d =
-      ap (λ (m : Made). and_then m λ c. and_then (stored n t room c (done ++ some p ∷ [])) λ s. wayFrom n t room (done ++ some p ∷ []) (some c) s ahead) e ∙
-      ap (λ (m : Made). and_then m λ s. wayFrom n t room (done ++ some p ∷ []) (some c) s ahead) d
+      ap (λ (m : Made). and_then m λ c. and_then (stored n t room c (done ++ some p ∷ [])) λ s. way_from n t room (done ++ some p ∷ []) (some c) s ahead) e ∙
+      ap (λ (m : Made). and_then m λ s. way_from n t room (done ++ some p ∷ []) (some c) s ahead) d
 
   pub way-large : (room : ℕ) (done ahead : Programs) (part : Option (List ℕ)) (state p : List ℕ) (r : Reply) → joined n t part p ≡ stopped r →
-      wayFrom n t room done part state (some p ∷ ahead) ≡ stopped r
-  unfolding wayFrom
+      way_from n t room done part state (some p ∷ ahead) ≡ stopped r
+  unfolding way_from
   way-large room done ahead part state p r e =
-      ap (λ (m : Made). and_then m λ c. and_then (stored n t room c (done ++ some p ∷ [])) λ s. wayFrom n t room (done ++ some p ∷ []) (some c) s ahead) e
+      ap (λ (m : Made). and_then m λ c. and_then (stored n t room c (done ++ some p ∷ [])) λ s. way_from n t room (done ++ some p ∷ []) (some c) s ahead) e
 
   pub way-halts : (room : ℕ) (done ahead : Programs) (part : Option (List ℕ)) (state p c : List ℕ) (r : Reply) → joined n t part p ≡ made c →
-      stored n t room c (done ++ some p ∷ []) ≡ stopped r → wayFrom n t room done part state (some p ∷ ahead) ≡ stopped r
-  unfolding wayFrom
+      stored n t room c (done ++ some p ∷ []) ≡ stopped r → way_from n t room done part state (some p ∷ ahead) ≡ stopped r
+  unfolding way_from
   way-halts room done ahead part state p c r e d =
-      ap (λ (m : Made). and_then m λ c. and_then (stored n t room c (done ++ some p ∷ [])) λ s. wayFrom n t room (done ++ some p ∷ []) (some c) s ahead) e ∙
-      ap (λ (m : Made). and_then m λ s. wayFrom n t room (done ++ some p ∷ []) (some c) s ahead) d
+      ap (λ (m : Made). and_then m λ c. and_then (stored n t room c (done ++ some p ∷ [])) λ s. way_from n t room (done ++ some p ∷ []) (some c) s ahead) e ∙
+      ap (λ (m : Made). and_then m λ s. way_from n t room (done ++ some p ∷ []) (some c) s ahead) d
 
   -- Programs are read back: those in `before` are restored, and `count` versions are left.
-  abbrev pub restoredOn : Programs → List ℕ → ℕ → ℕ → List ℕ → Option Programs
-  restoredOn before part count bits bytes = map (λ ps. before ++ ps) (restored n t part count bits bytes)
+  abbrev pub restored_on : Programs → List ℕ → ℕ → ℕ → List ℕ → Option Programs
+  restored_on before part count bits bytes = map (λ ps. before ++ ps) (restored n t part count bits bytes)
 
-  pub on-end : (before : Programs) (part : List ℕ) (bits : ℕ) (bytes : List ℕ) → restoredOn before part 0 bits bytes ≡ some before
+  pub on-end : (before : Programs) (part : List ℕ) (bits : ℕ) (bytes : List ℕ) → restored_on before part 0 bits bytes ≡ some before
   unfolding restored
   on-end before part bits bytes = ap some (append-nil before)
 
@@ -111,50 +111,50 @@ module _ (n : ℕ) (t : List ℕ) where
   abbrev one : List ℕ → ℕ → ℕ → List ℕ → Bool → Option Programs
   one part count bits bytes b =
       cond b
-      (bind (takeMeasured bytes) λ d.
-      bind (recordIn (combination n t d.0 part)) λ p.
+      (bind (take_measured bytes) λ d.
+      bind (record_in (combination n t d.0 part)) λ p.
       map (λ ps. some p ∷ ps) (restored n t part count (bits / 2) d.1))
       (map (λ ps. none ∷ ps) (restored n t part count (bits / 2) bytes))
 
   by_bit : (before : Programs) (part : List ℕ) (count bits : ℕ) (bytes : List ℕ) (b : Bool) → eqb (bits % 2) 1 ≡ b →
-      restoredOn before part (suc count) bits bytes ≡ map (λ ps. before ++ ps) (one part count bits bytes b)
+      restored_on before part (suc count) bits bytes ≡ map (λ ps. before ++ ps) (one part count bits bytes b)
   unfolding restored
   by_bit before part count bits bytes b e = ap (λ (x : Bool). map (λ ps. before ++ ps) (one part count bits bytes x)) e
 
   module _ (before : Programs) (part : List ℕ) (count bits : ℕ) (bytes : List ℕ) where
-    pub on-absent : (bits % 2 ≡ 1 → ⊥) → restoredOn before part (suc count) bits bytes ≡ restoredOn (before ++ none ∷ []) part count (bits / 2) bytes
+    pub on-absent : (bits % 2 ≡ 1 → ⊥) → restored_on before part (suc count) bits bytes ≡ restored_on (before ++ none ∷ []) part count (bits / 2) bytes
     on-absent even = by_bit before part count bits bytes false (ne_eqb (bits % 2) 1 even) ∙ more before none (restored n t part count (bits / 2) bytes)
 
     module _ (odd : bits % 2 ≡ 1) where
-      there : restoredOn before part (suc count) bits bytes ≡ map (λ ps. before ++ ps) (one part count bits bytes true)
+      there : restored_on before part (suc count) bits bytes ≡ map (λ ps. before ++ ps) (one part count bits bytes true)
       there = by_bit before part count bits bytes true (eq-eqb (bits % 2) 1 odd)
 
-      pub on-short : takeMeasured bytes ≡ none → restoredOn before part (suc count) bits bytes ≡ none
+      pub on-short : take_measured bytes ≡ none → restored_on before part (suc count) bits bytes ≡ none
       unfolding bind
       on-short e =
           there ∙
           ap (λ (o : Option (List ℕ × List ℕ)). map (λ ps. before ++ ps) (bind o λ d.
-          bind (recordIn (combination n t d.0 part)) λ p. map (λ ps. some p ∷ ps) (restored n t part count (bits / 2) d.1))) e
+          bind (record_in (combination n t d.0 part)) λ p. map (λ ps. some p ∷ ps) (restored n t part count (bits / 2) d.1))) e
 
-      module _ (d rest : List ℕ) (taken : takeMeasured bytes ≡ some (d, rest)) where
-        pub on-difference : restoredOn before part (suc count) bits bytes ≡
-            map (λ ps. before ++ ps) (bind (recordIn (combination n t d part)) λ p. map (λ ps. some p ∷ ps) (restored n t part count (bits / 2) rest))
+      module _ (d rest : List ℕ) (taken : take_measured bytes ≡ some (d, rest)) where
+        pub on-difference : restored_on before part (suc count) bits bytes ≡
+            map (λ ps. before ++ ps) (bind (record_in (combination n t d part)) λ p. map (λ ps. some p ∷ ps) (restored n t part count (bits / 2) rest))
         unfolding bind
         on-difference =
             there ∙
             ap (λ (o : Option (List ℕ × List ℕ)). map (λ ps. before ++ ps) (bind o λ d.
-            bind (recordIn (combination n t d.0 part)) λ p. map (λ ps. some p ∷ ps) (restored n t part count (bits / 2) d.1))) taken
+            bind (record_in (combination n t d.0 part)) λ p. map (λ ps. some p ∷ ps) (restored n t part count (bits / 2) d.1))) taken
 
-        pub on-refused : (r : Reply) → combination n t d part ≡ stopped r → restoredOn before part (suc count) bits bytes ≡ none
+        pub on-refused : (r : Reply) → combination n t d part ≡ stopped r → restored_on before part (suc count) bits bytes ≡ none
         unfolding bind
         on-refused r e =
             on-difference ∙
-            ap (λ (m : Made). map (λ ps. before ++ ps) (bind (recordIn m) λ p. map (λ ps. some p ∷ ps) (restored n t part count (bits / 2) rest))) e
+            ap (λ (m : Made). map (λ ps. before ++ ps) (bind (record_in m) λ p. map (λ ps. some p ∷ ps) (restored n t part count (bits / 2) rest))) e
 
         pub on-present : (p : List ℕ) → combination n t d part ≡ made p →
-            restoredOn before part (suc count) bits bytes ≡ restoredOn (before ++ some p ∷ []) part count (bits / 2) rest
+            restored_on before part (suc count) bits bytes ≡ restored_on (before ++ some p ∷ []) part count (bits / 2) rest
         unfolding bind
         on-present p e =
             on-difference ∙
-            ap (λ (m : Made). map (λ ps. before ++ ps) (bind (recordIn m) λ p. map (λ ps. some p ∷ ps) (restored n t part count (bits / 2) rest))) e ∙
+            ap (λ (m : Made). map (λ ps. before ++ ps) (bind (record_in m) λ p. map (λ ps. some p ∷ ps) (restored n t part count (bits / 2) rest))) e ∙
             more before (some p) (restored n t part count (bits / 2) rest)

@@ -14,10 +14,10 @@ use Rattle.replies.specs.declared.Reply.TheVariants.{Length, NoStoreRoom}
 use Rattle.replies.specs.Reply.{resulting, length_of, Bounded}
 use Rattle.calls.specs.Calls.{differing}
 use Rattle.gathering.specs.Gathering.{length_at}
-use Rattle.versions.specs.State.{Made, taken, blank, twoBytes, Programs, mapOf, measured, differenceOf, within, stored}
-use Rattle.versions.specs.Slots.{slot_at, programsIn}
+use Rattle.versions.specs.State.{Made, taken, blank, two_bytes, Programs, map_of, measured, difference_of, within, stored}
+use Rattle.versions.specs.Slots.{slot_at, programs_in}
 use Rattle.versions.specs.Promise.{Puts, standing, onward, packed}
-use Rattle.versions.proofs.SlotLaws.{programs-length, program-at, slot-none, recordAt, slot-some, length-two-bytes, length-measured}
+use Rattle.versions.proofs.SlotLaws.{programs-length, program-at, slot-none, record_at, slot-some, length-two-bytes, length-measured}
 use Rattle.versions.proofs.Loops.{within-fits, within-short, stored-packed, packed-end, packed-absent, packed-stops, packed-present, packed-over}
 use Rattle.versions.proofs.Written.{Fitting, differing-fits, taken-most, taken-long}
 use Rattle.versions.proofs.Lengths.{none-taken, none-onward}
@@ -82,21 +82,21 @@ goes-absent n t slots part v l is e room bytes ps =
 
 -- the difference of a version that exists, as a call replies and leaves it
 pub record Differs (n : ℕ) (t slots part : List ℕ) (v : ℕ) (r : Reply) (out : List ℕ) : Type 0 where
-  pub there : slot_at slots v ≡ some (recordAt slots v)
-  pub tells : differenceOf n t part (recordAt slots v) ≡ taken (resulting r out)
+  pub there : slot_at slots v ≡ some (record_at slots v)
+  pub tells : difference_of n t part (record_at slots v) ≡ taken (resulting r out)
   pub short : Bounded r 4854
   pub long : length out ≡ 4854
 
 pub differs-in : (n : ℕ) (t slots part : List ℕ) (v l : ℕ) (r : Reply) (out : List ℕ) → l ≡ length_at (drop (v * 4856) slots) → (l ≡ 0 → ⊥) →
     resulting r out ≡ differing n t part (take (v * 4856 + 2 + l - (v * 4856 + 2)) (drop (v * 4856 + 2) slots)) (replicate 4854 0) →
     Differs n t slots part v r out
-unfolding differenceOf blank
+unfolding difference_of blank
 differs-in n t slots part v l r out is other e =
     let size : v * 4856 + 2 + l - (v * 4856 + 2) ≡ length_at (drop (v * 4856) slots) = omega (arith, is) in
-    let told : resulting r out ≡ differing n t part (recordAt slots v) (replicate 4854 0) =
+    let told : resulting r out ≡ differing n t part (record_at slots v) (replicate 4854 0) =
     e ∙ ap (λ (k : ℕ). differing n t part (take k (drop (v * 4856 + 2) slots)) (replicate 4854 0)) size in
-    let fits : Fitting (replicate 4854 0) (differing n t part (recordAt slots v) (replicate 4854 0)) =
-    differing-fits (replicate 4854 0) n t part (recordAt slots v) in
+    let fits : Fitting (replicate 4854 0) (differing n t part (record_at slots v) (replicate 4854 0)) =
+    differing-fits (replicate 4854 0) n t part (record_at slots v) in
     record {
       there = slot-some slots v (λ z. other (is ∙ z));
       tells = ap taken (sym told);
@@ -106,13 +106,13 @@ differs-in n t slots part v l r out is other e =
 
 module _ {n : ℕ} {t slots part : List ℕ} {v : ℕ} {r : Reply} {out : List ℕ} (differs : Differs n t slots part v r out) where
   is_some : (room : ℕ) (bytes : List ℕ) (ps : Programs) →
-      packed n t room bytes part (slot_at slots v ∷ ps) ≡ packed n t room bytes part (some (recordAt slots v) ∷ ps)
+      packed n t room bytes part (slot_at slots v ∷ ps) ≡ packed n t room bytes part (some (record_at slots v) ∷ ps)
   is_some room bytes ps = ap (λ (p : Option (List ℕ)). packed n t room bytes part (p ∷ ps)) differs.there
 
   pub goes-refused : length_of r ≡ none → (room : ℕ) (bytes : List ℕ) (ps : Programs) (next : ℕ → Made) →
       packed n t room bytes part (slot_at slots v ∷ ps) ≡ onward r next
   goes-refused refused room bytes ps next =
-      is_some room bytes ps ∙ packed-stops n t room bytes part (recordAt slots v) ps r (differs.tells ∙ none-taken r refused out) ∙
+      is_some room bytes ps ∙ packed-stops n t room bytes part (record_at slots v) ps r (differs.tells ∙ none-taken r refused out) ∙
       sym (none-onward r refused next)
 
   module _ (l : ℕ) (e : r ≡ Length l) where
@@ -126,7 +126,7 @@ module _ {n : ℕ} {t slots part : List ℕ} {v : ℕ} {r : Reply} {out : List �
         packed n t (length old) (standing at old) part (slot_at slots v ∷ ps) ≡ packed n t (length old) (standing (at + 2 + l) new) part ps
     goes-put {at} {old} {new} puts ps =
         is_some (length old) (standing at old) ps ∙
-        packed-present n t (length old) (standing at old) part (recordAt slots v) (take l out) ps
+        packed-present n t (length old) (standing at old) part (record_at slots v) (take l out) ps
         (differs.tells ∙ ap (λ (q : Reply). taken (resulting q out)) e) ∙
         packed-put puts n t part ps ∙ ap (λ (k : ℕ). packed n t (length old) (standing (at + 2 + k) new) part ps) (sym size_is)
 
@@ -136,29 +136,29 @@ pub record Packing (n : ℕ) (t slots part : List ℕ) (count room : ℕ) (state
   pub low : v ≤ count
   pub near : at ≤ 4858 + v * 4856
   pub long : length state ≡ room
-  pub left : packed n t room (standing at state) part (drop v (take count (programsIn slots))) ≡ stored n t room part (take count (programsIn slots))
+  pub left : packed n t room (standing at state) part (drop v (take count (programs_in slots))) ≡ stored n t room part (take count (programs_in slots))
 
 -- The map is put as two bytes, first of all.
-module _ (bits : ℕ) (old : List ℕ) {state : List ℕ} (is : state ≡ take 0 old ++ (twoBytes bits ++ drop (0 + 2) old)) where
+module _ (bits : ℕ) (old : List ℕ) {state : List ℕ} (is : state ≡ take 0 old ++ (two_bytes bits ++ drop (0 + 2) old)) where
   pub two-long : 2 ≤ length old → length state ≡ length old
   two-long two =
-      omega (arith, two, ap length is, length-append (twoBytes bits) (drop (0 + 2) old), length-two-bytes bits, length-drop (0 + 2) old)
+      omega (arith, two, ap length is, length-append (two_bytes bits) (drop (0 + 2) old), length-two-bytes bits, length-drop (0 + 2) old)
 
-  pub two-stand : take 2 state ≡ twoBytes bits
-  two-stand = ap (take 2) is ∙ take_at (twoBytes bits) (drop (0 + 2) old) 2 (length-two-bytes bits)
+  pub two-stand : take 2 state ≡ two_bytes bits
+  two-stand = ap (take 2) is ∙ take_at (two_bytes bits) (drop (0 + 2) old) 2 (length-two-bytes bits)
 
 -- The map and the common part stand.
-module _ (bits : ℕ) (old : List ℕ) {part state new : List ℕ} (two : 2 ≤ length old) (is : state ≡ take 0 old ++ (twoBytes bits ++ drop (0 + 2) old))
+module _ (bits : ℕ) (old : List ℕ) {part state new : List ℕ} (two : 2 ≤ length old) (is : state ≡ take 0 old ++ (two_bytes bits ++ drop (0 + 2) old))
     (puts : Puts part 2 state new) where
   pub start-long : length new ≡ length old
   start-long = puts.long ∙ two-long bits old is two
 
-  pub packing-start : (n : ℕ) (t slots : List ℕ) (count : ℕ) → count ≤ 16 → length part ≤ 4854 → bits ≡ mapOf (take count (programsIn slots)) →
+  pub packing-start : (n : ℕ) (t slots : List ℕ) (count : ℕ) → count ≤ 16 → length part ≤ 4854 → bits ≡ map_of (take count (programs_in slots)) →
       Packing n t slots part count (length new) new (4 + length part) 0
   packing-start n t slots count few short e =
-      let ps : Programs = take count (programsIn slots) in
-      let map-stands : standing 2 state ≡ twoBytes (mapOf ps) =
-      standing-fits 2 state (omega (arith, two, two-long bits old is two)) ∙ two-stand bits old is ∙ ap twoBytes e in
+      let ps : Programs = take count (programs_in slots) in
+      let map-stands : standing 2 state ≡ two_bytes (map_of ps) =
+      standing-fits 2 state (omega (arith, two, two-long bits old is two)) ∙ two-stand bits old is ∙ ap two_bytes e in
       record {
         few = few;
         low = omega arith;
@@ -171,10 +171,10 @@ module _ (bits : ℕ) (old : List ℕ) {part state new : List ℕ} (two : 2 ≤ 
 
 module _ {n : ℕ} {t slots part : List ℕ} {count room : ℕ} {state : List ℕ} {at v : ℕ} (so_far : Packing n t slots part count room state at v) where
   abbrev whole : Made
-  whole = stored n t room part (take count (programsIn slots))
+  whole = stored n t room part (take count (programs_in slots))
 
-  count-programs : length (take count (programsIn slots)) ≡ count
-  count-programs = length-take-le count (programsIn slots) (omega (arith, so_far.few, programs-length slots))
+  count-programs : length (take count (programs_in slots)) ≡ count
+  count-programs = length-take-le count (programs_in slots) (omega (arith, so_far.few, programs-length slots))
 
   -- One version is packed.
   module _ (more : v < count) (r : Reply) (new : List ℕ)
@@ -182,14 +182,14 @@ module _ {n : ℕ} {t slots part : List ℕ} {count room : ℕ} {state : List �
       packed n t (length state) (standing at state) part (slot_at slots v ∷ ps) ≡
       onward r (λ next. packed n t (length state) (standing next new) part ps)) where
     abbrev behind : Programs
-    behind = drop (v + 1) (take count (programsIn slots))
+    behind = drop (v + 1) (take count (programs_in slots))
 
-    next-program : drop v (take count (programsIn slots)) ≡ slot_at slots v ∷ behind
+    next-program : drop v (take count (programs_in slots)) ≡ slot_at slots v ∷ behind
     next-program =
         let e : suc v ≡ v + 1 = omega arith in
-        drop-cons (take count (programsIn slots)) v none (omega (arith, more, count-programs)) ∙
-        ap₂ (λ (p : Option (List ℕ)) (k : ℕ). p ∷ drop k (take count (programsIn slots)))
-        (get_or-take count (programsIn slots) v none more ∙ program-at slots v (omega (arith, more, so_far.few))) e
+        drop-cons (take count (programs_in slots)) v none (omega (arith, more, count-programs)) ∙
+        ap₂ (λ (p : Option (List ℕ)) (k : ℕ). p ∷ drop k (take count (programs_in slots)))
+        (get_or-take count (programs_in slots) v none more ∙ program-at slots v (omega (arith, more, so_far.few))) e
 
     goes_on : whole ≡ onward r (λ next. packed n t room (standing next new) part behind)
     goes_on =
@@ -218,7 +218,7 @@ module _ {n : ℕ} {t slots part : List ℕ} {count room : ℕ} {state : List �
     ended =
         sym (packed-end n t room (standing at state) part) ∙
         ap (packed n t room (standing at state) part)
-        (sym (drop_of_length-le (take count (programsIn slots)) {i = v} (omega (arith, all, count-programs)))) ∙
+        (sym (drop_of_length-le (take count (programs_in slots)) {i = v} (omega (arith, all, count-programs)))) ∙
         so_far.left
 
     pub packing-fits : at ≤ length state → taken (resulting (Length at) state) ≡ whole

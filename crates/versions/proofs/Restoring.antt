@@ -12,23 +12,23 @@ use Rattle.acceptance.proofs.Acceptance.{accepted-opened}
 use Rattle.replies.specs.declared.Reply.{Reply}
 use Rattle.replies.specs.declared.Reply.TheVariants.{Length}
 use Rattle.replies.specs.Reply.{resulting, refusing}
-use Rattle.engine.specs.Unifying.{unifiedBeside}
+use Rattle.engine.specs.Unifying.{unified_beside}
 use Rattle.calls.specs.Calls.{checked, unifying}
 use Rattle.calls.proofs.Beside.{unifying-plain}
-use Rattle.versions.specs.State.{recordIn, blank, combination}
+use Rattle.versions.specs.State.{record_in, blank, combination}
 use Rattle.versions.specs.Slots.{Absent}
 use Rattle.versions.specs.Promise.{Puts, Restores}
 use Rattle.versions.proofs.SlotLaws.{put-slot, put-absent}
 use Rattle.versions.proofs.Written.{length-blank, unifying-fits, taken_made, taken-stopped, taken-least, taken-most, taken-long, taken-length}
 
 -- Over an accepted table and without a list, combining two records is the call `unifying`.
-unified-call : (n : ℕ) (t list a b out : List ℕ) → accepted n t ≡ true → length list ≡ 0 → unifiedBeside n t list a b out ≡ unifying n t a b out
+unified-call : (n : ℕ) (t list a b out : List ℕ) → accepted n t ≡ true → length list ≡ 0 → unified_beside n t list a b out ≡ unifying n t a b out
 unified-call n t list a b out ok empty =
-    sym (ap (λ (o : Opened). checked (λ r. refusing r out) o (unifiedBeside n t list a b out)) (accepted-opened n t ok)) ∙
+    sym (ap (λ (o : Opened). checked (λ r. refusing r out) o (unified_beside n t list a b out)) (accepted-opened n t ok)) ∙
     unifying-plain n t list empty out a b
 
 module _ (n : ℕ) (t list a b : List ℕ) {reply : Reply} {new : List ℕ} (ok : accepted n t ≡ true) (empty : length list ≡ 0)
-    (is : resulting reply new ≡ unifiedBeside n t list a b (replicate 4854 0)) where
+    (is : resulting reply new ≡ unified_beside n t list a b (replicate 4854 0)) where
   combines : resulting reply new ≡ unifying n t a b blank
   unfolding blank
   combines = is ∙ unified-call n t list a b (replicate 4854 0) ok empty
@@ -52,7 +52,7 @@ module _ (n : ℕ) (t list a b : List ℕ) {reply : Reply} {new : List ℕ} (ok 
         record {
           slotted = absent.slotted;
           restores = λ e. true-false e refl;
-          fails = λ e. ap recordIn (taken-stopped combines other);
+          fails = λ e. ap record_in (taken-stopped combines other);
         }
 
     pub is-restored : v < 16 → (l : ℕ) → reply ≡ Length l → {after : List ℕ} → Puts (take l new) (v * 4856) slots after →

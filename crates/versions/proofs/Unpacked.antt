@@ -18,25 +18,25 @@ use Rattle.acceptance.proofs.Acceptance.{accepted-opened}
 use Rattle.replies.specs.declared.Reply.{Reply}
 use Rattle.gathering.specs.Gathering.{length_at}
 use Rattle.gathering.proofs.Told.{none-some}
-use Rattle.versions.specs.State.{Made, made, stopped, recordIn, Programs, noPrograms, combination, takeMeasured, restored, unpackedBy, unpacked}
-use Rattle.versions.specs.Slots.{programsIn, Slotted, Absent}
+use Rattle.versions.specs.State.{Made, made, stopped, record_in, Programs, no_programs, combination, take_measured, restored, unpacked_by, unpacked}
+use Rattle.versions.specs.Slots.{programs_in, Slotted, Absent}
 use Rattle.versions.specs.Promise.{EndsAt, Restores, Unpacks}
 use Rattle.versions.proofs.SlotLaws.{programs-length, take-program, slot-none, empty-programs}
-use Rattle.versions.proofs.Loops.{restoredOn, on-end, on-absent, on-short, on-refused, on-present}
+use Rattle.versions.proofs.Loops.{restored_on, on-end, on-absent, on-short, on-refused, on-present}
 
 -- A record is taken after its length where all its bytes are there.
 
 pub take-measured-some : (bytes : List ℕ) → 2 + length_at bytes ≤ length bytes →
-    takeMeasured bytes ≡ some (take (length_at bytes) (drop 2 bytes), drop (length_at bytes) (drop 2 bytes))
-unfolding takeMeasured
+    take_measured bytes ≡ some (take (length_at bytes) (drop 2 bytes), drop (length_at bytes) (drop 2 bytes))
+unfolding take_measured
 take-measured-some [] h = absurd (omega arith)
 take-measured-some (low ∷ []) h = absurd (omega arith)
 take-measured-some (low ∷ high ∷ rest) h =
     ap (λ (b : Bool). cond b (some (take (low + 256 * high) rest, drop (low + 256 * high) rest)) none)
     (le-leb (low + 256 * high) (length rest) (omega (arith, h)))
 
-pub take-measured-none : (bytes : List ℕ) → length bytes < 2 + length_at bytes → takeMeasured bytes ≡ none
-unfolding takeMeasured
+pub take-measured-none : (bytes : List ℕ) → length bytes < 2 + length_at bytes → take_measured bytes ≡ none
+unfolding take_measured
 take-measured-none [] h = refl
 take-measured-none (low ∷ []) h = refl
 take-measured-none (low ∷ high ∷ rest) h =
@@ -45,14 +45,14 @@ take-measured-none (low ∷ high ∷ rest) h =
 
 -- A record that stands at `at` behind its length, up to the place where it ends.
 module _ (bytes : List ℕ) (at end : ℕ) (inside : at ≤ length bytes) (ends : EndsAt bytes at end) where
-  pub measured-short : end ≡ 0 → takeMeasured (drop at bytes) ≡ none
+  pub measured-short : end ≡ 0 → take_measured (drop at bytes) ≡ none
   measured-short e = take-measured-none (drop at bytes) (omega (arith, ends.early e, inside, length-drop at bytes))
 
   module _ (there : end ≡ 0 → ⊥) where
     pub measured-end : (end ≡ at + (2 + length_at (drop at bytes))) × (end ≤ length bytes)
     measured-end = ends.whole there
 
-    pub measured-whole : takeMeasured (drop at bytes) ≡ some (take (end - (at + 2)) (drop (at + 2) bytes), drop end bytes)
+    pub measured-whole : take_measured (drop at bytes) ≡ some (take (end - (at + 2)) (drop (at + 2) bytes), drop end bytes)
     measured-whole =
         let l : ℕ = length_at (drop at bytes) in
         let long : l ≡ end - (at + 2) = omega (arith, measured-end.0) in
@@ -67,7 +67,7 @@ pub record Restored (n : ℕ) (t part : List ℕ) (bits : ℕ) (differences slot
   pub low : version ≤ 16
   pub inside : at ≤ length differences
   pub absent : Absent slots version
-  pub goes : restored n t part 16 bits differences ≡ restoredOn n t (take version (programsIn slots)) part (16 - version) left (drop at differences)
+  pub goes : restored n t part 16 bits differences ≡ restored_on n t (take version (programs_in slots)) part (16 - version) left (drop at differences)
 
 module _ (n : ℕ) (t part : List ℕ) (bits : ℕ) (differences : List ℕ) where
   pub restored-start : (slots : List ℕ) → Absent slots 0 → Restored n t part bits differences slots bits 0 0
@@ -78,7 +78,7 @@ module _ (n : ℕ) (t part : List ℕ) (bits : ℕ) (differences : List ℕ) whe
       go none = refl
       go (some ps) = refl
 
-record-stopped : (m : Made) → recordIn m ≡ none → (r : Reply) × (m ≡ stopped r)
+record-stopped : (m : Made) → record_in m ≡ none → (r : Reply) × (m ≡ stopped r)
 record-stopped (made p) e = none-some (sym e)
 record-stopped (stopped r) e = (r, refl)
 
@@ -90,12 +90,12 @@ module _ {n : ℕ} {t part : List ℕ} {bits : ℕ} {differences slots : List �
       subst (λ (k : ℕ). Restored n t part bits differences others left k version) (sym d)
       (subst (λ (l : List ℕ). Restored n t part bits differences l left at version) (sym e) so)
 
-  pub restored-all : 16 ≤ version → restored n t part 16 bits differences ≡ some (programsIn slots)
+  pub restored-all : 16 ≤ version → restored n t part 16 bits differences ≡ some (programs_in slots)
   restored-all h =
       let all : 16 - version ≡ 0 = omega arith in
-      so.goes ∙ ap (λ (k : ℕ). restoredOn n t (take version (programsIn slots)) part k left (drop at differences)) all ∙
-      on-end n t (take version (programsIn slots)) part left (drop at differences) ∙
-      ap some (take_all version (programsIn slots) (omega (arith, programs-length slots)))
+      so.goes ∙ ap (λ (k : ℕ). restored_on n t (take version (programs_in slots)) part k left (drop at differences)) all ∙
+      on-end n t (take version (programs_in slots)) part left (drop at differences) ∙
+      ap some (take_all version (programs_in slots) (omega (arith, programs-length slots)))
 
   module _ (inside : version < 16) where
     next : suc (16 - (version + 1)) ≡ 16 - version
@@ -105,9 +105,9 @@ module _ {n : ℕ} {t part : List ℕ} {bits : ℕ} {differences slots : List �
     one_more = omega arith
 
     goes-next : restored n t part 16 bits differences ≡
-        restoredOn n t (take version (programsIn slots)) part (suc (16 - (version + 1))) left (drop at differences)
+        restored_on n t (take version (programs_in slots)) part (suc (16 - (version + 1))) left (drop at differences)
     goes-next =
-        so.goes ∙ ap (λ (k : ℕ). restoredOn n t (take version (programsIn slots)) part k left (drop at differences)) (sym next)
+        so.goes ∙ ap (λ (k : ℕ). restored_on n t (take version (programs_in slots)) part k left (drop at differences)) (sym next)
 
     pub restored-absent : (left % 2 ≡ 1 → ⊥) → Restored n t part bits differences slots (left / 2) at (version + 1)
     restored-absent even =
@@ -116,17 +116,17 @@ module _ {n : ℕ} {t part : List ℕ} {bits : ℕ} {differences slots : List �
           inside = so.inside;
           absent = record { slotted = so.absent.slotted; empty = λ i from low. so.absent.empty i (omega arith) low };
           goes = goes-next ∙
-              on-absent n t (take version (programsIn slots)) part (16 - (version + 1)) left (drop at differences) even ∙
-              ap (λ (ps : Programs). restoredOn n t ps part (16 - (version + 1)) (left / 2) (drop at differences))
-              (sym (ap (λ (k : ℕ). take k (programsIn slots)) one_more ∙ take-program slots version inside ∙
-              ap (λ (p : Option (List ℕ)). take version (programsIn slots) ++ p ∷ []) (slot-none slots version (so.absent.empty version (omega arith) inside))));
+              on-absent n t (take version (programs_in slots)) part (16 - (version + 1)) left (drop at differences) even ∙
+              ap (λ (ps : Programs). restored_on n t ps part (16 - (version + 1)) (left / 2) (drop at differences))
+              (sym (ap (λ (k : ℕ). take k (programs_in slots)) one_more ∙ take-program slots version inside ∙
+              ap (λ (p : Option (List ℕ)). take version (programs_in slots) ++ p ∷ []) (slot-none slots version (so.absent.empty version (omega arith) inside))));
         }
 
     module _ (odd : left % 2 ≡ 1) {end : ℕ} (ends : EndsAt differences at end) where
       pub restored-short : end ≡ 0 → restored n t part 16 bits differences ≡ none
       restored-short e =
           goes-next ∙
-          on-short n t (take version (programsIn slots)) part (16 - (version + 1)) left (drop at differences) odd
+          on-short n t (take version (programs_in slots)) part (16 - (version + 1)) left (drop at differences) odd
           (measured-short differences at end so.inside ends e)
 
       module _ (there : end ≡ 0 → ⊥) {answer : Bool} {new : List ℕ}
@@ -135,30 +135,30 @@ module _ {n : ℕ} {t part : List ℕ} {bits : ℕ} {differences slots : List �
         restored-refused e =
             let (r, is) = record-stopped (combination n t (take (end - (at + 2)) (drop (at + 2) differences)) part) (restores.fails e) in
             goes-next ∙
-            on-refused n t (take version (programsIn slots)) part (16 - (version + 1)) left (drop at differences) odd
+            on-refused n t (take version (programs_in slots)) part (16 - (version + 1)) left (drop at differences) odd
             (take (end - (at + 2)) (drop (at + 2) differences)) (drop end differences)
             (measured-whole differences at end so.inside ends there) r is
 
         pub restored-present : answer ≡ true → Restored n t part bits differences new (left / 2) end (version + 1)
         restored-present e =
             let p : List ℕ = (restores.restores e).0 in
-            let is : programsIn new ≡ set (programsIn slots) version (some p) = (restores.restores e).2 in
+            let is : programs_in new ≡ set (programs_in slots) version (some p) = (restores.restores e).2 in
             record {
               low = omega arith;
               inside = (measured-end differences at end so.inside ends there).1;
               absent = subst (Absent new) (sym one_more) (restores.restores e).3;
               goes = goes-next ∙
-                  on-present n t (take version (programsIn slots)) part (16 - (version + 1)) left (drop at differences) odd
+                  on-present n t (take version (programs_in slots)) part (16 - (version + 1)) left (drop at differences) odd
                   (take (end - (at + 2)) (drop (at + 2) differences)) (drop end differences)
                   (measured-whole differences at end so.inside ends there) p (restores.restores e).1 ∙
-                  ap (λ (ps : Programs). restoredOn n t ps part (16 - (version + 1)) (left / 2) (drop end differences))
+                  ap (λ (ps : Programs). restored_on n t ps part (16 - (version + 1)) (left / 2) (drop end differences))
                   (sym (ap₂ (λ (k : ℕ) (ps : Programs). take k ps) one_more is ∙
-                  take-suc-set (programsIn slots) version (some p) (omega (arith, inside, programs-length slots))));
+                  take-suc-set (programs_in slots) version (some p) (omega (arith, inside, programs-length slots))));
             }
 
 -- A whole buffer.
 
-unpacked-by : (n : ℕ) (t buffer : List ℕ) → 2 ≤ length buffer → unpacked n t buffer ≡ unpackedBy n t (length_at buffer) (drop 2 buffer)
+unpacked-by : (n : ℕ) (t buffer : List ℕ) → 2 ≤ length buffer → unpacked n t buffer ≡ unpacked_by n t (length_at buffer) (drop 2 buffer)
 unfolding unpacked
 unpacked-by n t [] h = absurd (omega arith)
 unpacked-by n t (low ∷ []) h = absurd (omega arith)
@@ -172,12 +172,12 @@ not-refused n t {fault} ok e =
 
 module _ (n : ℕ) (t buffer : List ℕ) (two : 2 ≤ length buffer) {bits : ℕ} (is : bits ≡ length_at buffer) where
   abbrev rest : Option Programs
-  rest = bind (takeMeasured (drop 2 buffer)) λ part. restored n t part.0 16 bits part.1
+  rest = bind (take_measured (drop 2 buffer)) λ part. restored n t part.0 16 bits part.1
 
-  tested : (b : Bool) → eqb bits 0 ≡ b → unpacked n t buffer ≡ cond b (some noPrograms) rest
+  tested : (b : Bool) → eqb bits 0 ≡ b → unpacked n t buffer ≡ cond b (some no_programs) rest
   tested b e =
-      unpacked-by n t buffer two ∙ ap (λ (k : ℕ). unpackedBy n t k (drop 2 buffer)) (sym is) ∙
-      ap (λ (x : Bool). cond x (some noPrograms) rest) e
+      unpacked-by n t buffer two ∙ ap (λ (k : ℕ). unpacked_by n t k (drop 2 buffer)) (sym is) ∙
+      ap (λ (x : Bool). cond x (some no_programs) rest) e
 
   -- A map of 0 gives an empty store.
   pub unpacks-none : {slots : List ℕ} → Absent slots 0 → bits ≡ 0 → Unpacks n t buffer true slots
@@ -204,17 +204,17 @@ module _ (n : ℕ) (t buffer : List ℕ) (two : 2 ≤ length buffer) {bits : ℕ
     module _ (whole : end ≡ 0 → ⊥) where
       -- The common part is there, and the differences stand behind it.
       pub unpacks-all : {answer : Bool} {slots : List ℕ} → Slotted slots →
-          restored n t (take (end - 4) (drop 4 buffer)) 16 bits (take (length buffer - end) (drop end buffer)) ≡ cond answer (some (programsIn slots)) none →
+          restored n t (take (end - 4) (drop 4 buffer)) 16 bits (take (length buffer - end) (drop end buffer)) ≡ cond answer (some (programs_in slots)) none →
           Unpacks n t buffer answer slots
       unfolding bind
       unpacks-all {answer} {slots} slotted e =
-          let all : unpacked n t buffer ≡ cond answer (some (programsIn slots)) none =
+          let all : unpacked n t buffer ≡ cond answer (some (programs_in slots)) none =
           tested false (ne_eqb bits 0 there) ∙
           ap (λ (o : Option (List ℕ × List ℕ)). bind o λ part. restored n t part.0 16 bits part.1) (measured-whole buffer 2 end two ends whole) ∙
           ap (restored n t (take (end - 4) (drop 4 buffer)) 16 bits)
           (sym (take_all (length buffer - end) (drop end buffer) (omega (arith, length-drop end buffer)))) ∙ e in
           record {
             slotted = slotted;
-            unpacks = λ d. all ∙ ap (λ (b : Bool). cond b (some (programsIn slots)) none) d;
-            fails = λ d. all ∙ ap (λ (b : Bool). cond b (some (programsIn slots)) none) d;
+            unpacks = λ d. all ∙ ap (λ (b : Bool). cond b (some (programs_in slots)) none) d;
+            fails = λ d. all ∙ ap (λ (b : Bool). cond b (some (programs_in slots)) none) d;
           }

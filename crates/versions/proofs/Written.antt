@@ -12,30 +12,30 @@ use lib.Dec.{eqb, leb}
 use lib.ListN.{length, take, drop, length-append, length-drop, length-replicate}
 use lib.Seq.{length-take-le}
 use Rattle.graphs.specs.Rows.{Row, from}
-use Rattle.graphs.specs.Number.{Canonical, canonical, manyNodes, manyLinks, written}
+use Rattle.graphs.specs.Number.{Canonical, canonical, many_nodes, many_links, written}
 use Rattle.graphs.specs.Unify.{Unified, cycle, clash, unified, unification}
-use Rattle.graphs.specs.Difference.{byNumber}
+use Rattle.graphs.specs.Difference.{by_number}
 use Rattle.lattice.specs.Label.{Label}
-use Rattle.lattice.specs.Labels.{tableLabels}
+use Rattle.lattice.specs.Labels.{table_labels}
 use Rattle.acceptance.specs.declared.Opened.{Opened}
 use Rattle.acceptance.specs.declared.Opened.TheVariants as table
 use Rattle.acceptance.specs.Reply.{opened}
 use Rattle.encoder.specs.Encode.{encoded}
 use Rattle.encode.specs.declared.Written.TheVariants as outcome
-use Rattle.encode.specs.Encode.{yielding, fitted, writtenOut}
-use Rattle.record.specs.Read.{Reading, refused, accepted, reading, graphOfRows}
+use Rattle.encode.specs.Encode.{yielding, fitted, written_out}
+use Rattle.record.specs.Read.{Reading, refused, accepted, reading, graph_of_rows}
 use Rattle.replies.specs.declared.Reply.{Reply}
 use Rattle.replies.specs.declared.Reply.TheVariants.{Length, Table, Graph, NoRoom, TooLarge, Cycle, Clash, NotBelow, NoWantedType}
 use Rattle.replies.specs.declared.Side.TheVariants.{First, Second}
 use Rattle.replies.specs.Reply.{Result, resulting, result_of, refusing, length_of}
-use Rattle.subsume.specs.Promise.{rowsBelow}
-use Rattle.difference.specs.Difference.{allWanted, differenceRows, differedRows, differed, numbered}
-use Rattle.pairs.specs.Pair.{readBoth}
+use Rattle.subsume.specs.Promise.{rows_below}
+use Rattle.difference.specs.Difference.{all_wanted, difference_rows, differed_rows, differed, numbered}
+use Rattle.pairs.specs.Pair.{read_both}
 use Rattle.engine.specs.Generalizing.{generalized}
-use Rattle.engine.specs.Unifying.{combined, unifiedRows}
+use Rattle.engine.specs.Unifying.{combined, unified_rows}
 use Rattle.calls.specs.Calls.{checked, generalizing, unifying, differing}
 use Rattle.gathering.proofs.Told.{none-some, length-told}
-use Rattle.versions.specs.State.{made, stopped, taken, takenBy, blank}
+use Rattle.versions.specs.State.{made, stopped, taken, taken_by, blank}
 
 pub length-blank : length blank ≡ 4854
 unfolding blank
@@ -68,10 +68,10 @@ module _ (out : List ℕ) where
           }
       go false e = refused-fits NoRoom refl
 
-  pub written-fits : (c : Canonical Label) → Fitting out (result_of (writtenOut c out))
-  unfolding writtenOut
-  written-fits manyNodes = refused-fits TooLarge refl
-  written-fits manyLinks = refused-fits TooLarge refl
+  pub written-fits : (c : Canonical Label) → Fitting out (result_of (written_out c out))
+  unfolding written_out
+  written-fits many_nodes = refused-fits TooLarge refl
+  written-fits many_links = refused-fits TooLarge refl
   written-fits (written rows) = fitted-fits rows
 
   -- The refusals before the call's operation.
@@ -80,35 +80,35 @@ module _ (out : List ℕ) where
   checked-fits table.Accepted r h = h
 
   both-fits : (i j : Reading) (next : List (Row Label) → List (Row Label) → Result) → ((g h : List (Row Label)) → Fitting out (next g h)) →
-      Fitting out (readBoth (λ q. refusing q out) i j next)
+      Fitting out (read_both (λ q. refusing q out) i j next)
   both-fits (refused fault) j next fits = refused-fits (Graph fault First) refl
   both-fits (accepted rows) (refused fault) next fits = refused-fits (Graph fault Second) refl
   both-fits (accepted rows) (accepted others) next fits = fits rows others
 
   module _ (n : ℕ) (t : List ℕ) where
-    unified-fits : (g h : List (Row Label)) → Fitting out (unifiedRows n t out g h)
-    unfolding unifiedRows
+    unified-fits : (g h : List (Row Label)) → Fitting out (unified_rows n t out g h)
+    unfolding unified_rows
     unified-fits g h =
-        go (unification (tableLabels n t) eqb eqb (graphOfRows g) (from 0 (length g)) (graphOfRows h) (from 0 (length h)))
+        go (unification (table_labels n t) eqb eqb (graph_of_rows g) (from 0 (length g)) (graph_of_rows h) (from 0 (length h)))
       where
         go : (u : Unified Label (ℕ ⊎ ℕ)) → Fitting out (combined u out)
         go cycle = refused-fits Cycle refl
         go clash = refused-fits Clash refl
         go (unified u) = written-fits _
 
-    differed-fits : (g h : List (Row Label)) → Fitting out (differedRows byNumber n t out g h)
-    unfolding differedRows differed
-    differed-fits g h = go (numbered (canonical eqb (graphOfRows h)))
+    differed-fits : (g h : List (Row Label)) → Fitting out (differed_rows by_number n t out g h)
+    unfolding differed_rows differed
+    differed-fits g h = go (numbered (canonical eqb (graph_of_rows h)))
       where
         go : (s : List (Row Label)) → Fitting out
-            (cond (rowsBelow n t s g)
-            (cond (allWanted n t s g) (result_of (writtenOut (canonical eqb (differenceRows byNumber n t g s)) out)) (refusing NoWantedType out))
+            (cond (rows_below n t s g)
+            (cond (all_wanted n t s g) (result_of (written_out (canonical eqb (difference_rows by_number n t g s)) out)) (refusing NoWantedType out))
             (refusing NotBelow out))
-        go s = test (rowsBelow n t s g) (allWanted n t s g)
+        go s = test (rows_below n t s g) (all_wanted n t s g)
           where
             test : (b w : Bool) → Fitting out
-                (cond b (cond w (result_of (writtenOut (canonical eqb (differenceRows byNumber n t g s)) out)) (refusing NoWantedType out)) (refusing NotBelow out))
-            test true true = written-fits (canonical eqb (differenceRows byNumber n t g s))
+                (cond b (cond w (result_of (written_out (canonical eqb (difference_rows by_number n t g s)) out)) (refusing NoWantedType out)) (refusing NotBelow out))
+            test true true = written-fits (canonical eqb (difference_rows by_number n t g s))
             test true false = refused-fits NoWantedType refl
             test false w = refused-fits NotBelow refl
 
@@ -119,11 +119,11 @@ module _ (out : List ℕ) where
 
       pub unifying-fits : Fitting out (unifying n t a b out)
       unfolding unifying
-      unifying-fits = checked-fits (opened n t) _ (both-fits (reading n a) (reading n b) (unifiedRows n t out) unified-fits)
+      unifying-fits = checked-fits (opened n t) _ (both-fits (reading n a) (reading n b) (unified_rows n t out) unified-fits)
 
       pub differing-fits : Fitting out (differing n t a b out)
       unfolding differing
-      differing-fits = checked-fits (opened n t) _ (both-fits (reading n a) (reading n b) (differedRows byNumber n t out) differed-fits)
+      differing-fits = checked-fits (opened n t) _ (both-fits (reading n a) (reading n b) (differed_rows by_number n t out) differed-fits)
 
 -- The record that is taken: `call` is what a call yields, `reply` is what was answered, and `new` is the output.
 module _ {call : Result} {reply : Reply} {new : List ℕ} (is : resulting reply new ≡ call) where
@@ -134,7 +134,7 @@ module _ {call : Result} {reply : Reply} {new : List ℕ} (is : resulting reply 
   taken-stopped other = ap taken (sym is) ∙ go (length_of reply) refl
     where
       go : (o : Option ℕ) → length_of reply ≡ o → taken (resulting reply new) ≡ stopped reply
-      go none e = ap (λ (o : Option ℕ). takenBy o (resulting reply new)) e
+      go none e = ap (λ (o : Option ℕ). taken_by o (resulting reply new)) e
       go (some l) e = absurd (other l (length-told reply l e))
 
   module _ {out : List ℕ} (fits : Fitting out call) where

@@ -4,8 +4,8 @@ use Rattle.std.proofs.Math.Option.{Option, none, some}
 use Rattle.replies.specs.declared.Reply.{Reply}
 use Rattle.replies.specs.Reply.{length_of}
 use Rattle.gathering.specs.Gathering.{length_at}
-use Rattle.versions.specs.State.{Made, made, stopped, and_then, recordIn, Programs, measured, within, differences, unpacked}
-use Rattle.versions.specs.Slots.{programsIn, Slotted, Absent}
+use Rattle.versions.specs.State.{Made, made, stopped, and_then, record_in, Programs, measured, within, differences, unpacked}
+use Rattle.versions.specs.Slots.{programs_in, Slotted, Absent}
 
 -- The bytes are put behind their length, from `at` on, if there is room for both; else nothing changes.
 pub record Puts (bytes : List ℕ) (at : ℕ) (old new : List ℕ) : Type 0 where
@@ -18,13 +18,13 @@ unfoldable pub standing : ℕ → List ℕ → List ℕ
 standing at state = cond (leb at (length state)) (take at state) (replicate (suc (length state)) 0)
 
 -- A reply that tells a length goes on with it; any other reply stops.
-abbrev pub onwardBy : Option ℕ → Reply → (ℕ → Made) → Made
-onwardBy none r next = stopped r
-onwardBy (some l) r next = next l
+abbrev pub onward_by : Option ℕ → Reply → (ℕ → Made) → Made
+onward_by none r next = stopped r
+onward_by (some l) r next = next l
 
--- `onwardBy`, by the length that the reply tells.
+-- `onward_by`, by the length that the reply tells.
 abbrev pub onward : Reply → (ℕ → Made) → Made
-onward r next = onwardBy (length_of r) r next
+onward r next = onward_by (length_of r) r next
 
 -- No version from k on and before v exists.
 abbrev pub NoneFrom : ℕ → ℕ → Programs → Type 0
@@ -37,8 +37,8 @@ packed n t room bytes part ps = and_then (differences n t part ps) λ ds. within
 -- One program of a buffer is restored into slot v, or the answer says that there is none.
 pub record Restores (m : Made) (v : ℕ) (old : List ℕ) (answer : Bool) (new : List ℕ) : Type 0 where
   pub slotted : Slotted new
-  pub restores : answer ≡ true → (p : List ℕ) × (m ≡ made p) × (programsIn new ≡ set (programsIn old) v (some p)) × Absent new (suc v)
-  pub fails : answer ≡ false → recordIn m ≡ none
+  pub restores : answer ≡ true → (p : List ℕ) × (m ≡ made p) × (programs_in new ≡ set (programs_in old) v (some p)) × Absent new (suc v)
+  pub fails : answer ≡ false → record_in m ≡ none
 
 -- The length of a record with its two length bytes.
 abbrev pub end_of : List ℕ → ℕ
@@ -52,5 +52,5 @@ pub record EndsAt (bytes : List ℕ) (at end : ℕ) : Type 0 where
 -- All programs of a buffer are restored into slots, or the answer says that there are none.
 pub record Unpacks (n : ℕ) (t buffer : List ℕ) (answer : Bool) (slots : List ℕ) : Type 0 where
   pub slotted : Slotted slots
-  pub unpacks : answer ≡ true → unpacked n t buffer ≡ some (programsIn slots)
+  pub unpacks : answer ≡ true → unpacked n t buffer ≡ some (programs_in slots)
   pub fails : answer ≡ false → unpacked n t buffer ≡ none

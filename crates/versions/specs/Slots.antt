@@ -7,16 +7,16 @@ use Rattle.gathering.specs.Gathering.{length_at, first_of}
 use Rattle.versions.specs.State.{Programs}
 
 -- The record behind its length; none where the length is 0.
-abbrev pub measuredIn : List ℕ → Option (List ℕ)
-measuredIn bytes = first_of (length_at bytes) (drop 2 bytes)
+abbrev pub measured_in : List ℕ → Option (List ℕ)
+measured_in bytes = first_of (length_at bytes) (drop 2 bytes)
 
 -- The program in slot v.
 abbrev pub slot_at : List ℕ → ℕ → Option (List ℕ)
-slot_at slots v = measuredIn (drop (v * 4856) slots)
+slot_at slots v = measured_in (drop (v * 4856) slots)
 
 -- The programs in all 16 slots.
-unfoldable pub programsIn : List ℕ → Programs
-programsIn slots = map (slot_at slots) (from 0 16)
+unfoldable pub programs_in : List ℕ → Programs
+programs_in slots = map (slot_at slots) (from 0 16)
 
 -- There are 16 slots, and each record fits in its slot.
 pub record Slotted (slots : List ℕ) : Type 0 where

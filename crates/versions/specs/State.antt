@@ -2,12 +2,12 @@
 -- bytes that the calls of document 01 write. `Calls` of crate `store` defines put, drop and read.
 use Rattle.std.specs.Prelude.{Bool, true, false, cond, ◌&&◌, List, [], ◌∷◌, ◌++◌, ℕ, zero, suc, ◌+◌, ◌*◌, ◌/◌, ◌%◌, eqb, leb, length, take, drop, replicate}
 use Rattle.std.proofs.Math.Option.{Option, none, some, map, bind}
-use Rattle.graphs.specs.Number.{countSome}
+use Rattle.graphs.specs.Number.{count_some}
 use Rattle.replies.specs.declared.Reply.{Reply}
 use Rattle.replies.specs.declared.Reply.TheVariants.{NoStoreRoom}
 use Rattle.replies.specs.Reply.{Result, length_of}
 use Rattle.calls.specs.Calls.{generalizing, unifying, differing}
-unfoldable pub use Rattle.gathering.specs.Gathering.{blank, twoBytes}
+unfoldable pub use Rattle.gathering.specs.Gathering.{blank, two_bytes}
 
 -- "the first number met": either bytes, or the reply that stopped their making.
 pub data Made : Type 0 where
@@ -20,56 +20,56 @@ and_then (made bytes) next = next bytes
 and_then (stopped r) next = stopped r
 
 -- The bytes that are made, if any.
-abbrev pub recordIn : Made → Option (List ℕ)
-recordIn (made bytes) = some bytes
-recordIn (stopped r) = none
+abbrev pub record_in : Made → Option (List ℕ)
+record_in (made bytes) = some bytes
+record_in (stopped r) = none
 
 -- The bytes whose length a reply tells; any other reply stops.
-abbrev pub takenBy : Option ℕ → Result → Made
-takenBy none r = stopped r.reply
-takenBy (some l) r = made (take l r.output)
+abbrev pub taken_by : Option ℕ → Result → Made
+taken_by none r = stopped r.reply
+taken_by (some l) r = made (take l r.output)
 
--- `takenBy`, by the length that the reply tells.
+-- `taken_by`, by the length that the reply tells.
 abbrev pub taken : Result → Made
-taken r = takenBy (length_of r.reply) r
+taken r = taken_by (length_of r.reply) r
 
 -- The record of the common part of a and b. This call of document 01, and the two below, write into room for the longest record.
-unfoldable pub commonPart : ℕ → List ℕ → List ℕ → List ℕ → Made
-commonPart n t a b = taken (generalizing n t a b blank)
+unfoldable pub common_part : ℕ → List ℕ → List ℕ → List ℕ → Made
+common_part n t a b = taken (generalizing n t a b blank)
 
 -- The record of the combination of a and b.
 unfoldable pub combination : ℕ → List ℕ → List ℕ → List ℕ → Made
 combination n t a b = taken (unifying n t a b blank)
 
 -- The record of the difference of g and s.
-unfoldable pub differenceOf : ℕ → List ℕ → List ℕ → List ℕ → Made
-differenceOf n t g s = taken (differing n t g s blank)
+unfoldable pub difference_of : ℕ → List ℕ → List ℕ → List ℕ → Made
+difference_of n t g s = taken (differing n t g s blank)
 
 -- The programs of a store: for each version number from 0 up, the written record where the version exists.
 abbrev pub Programs : Type 0
 Programs = List (Option (List ℕ))
 
 -- "up to 16 versions"
-abbrev pub noPrograms : Programs
-noPrograms = replicate 16 none
+abbrev pub no_programs : Programs
+no_programs = replicate 16 none
 
 -- "a map of 16 bits .. saying which exist": bit v stands when version v does
-unfoldable pub mapOf : Programs → ℕ
-mapOf [] = 0
-mapOf (p ∷ ps) = countSome p + 2 * mapOf ps
+unfoldable pub map_of : Programs → ℕ
+map_of [] = 0
+map_of (p ∷ ps) = count_some p + 2 * map_of ps
 
 -- "the length and record"
 unfoldable pub measured : List ℕ → List ℕ
-measured bytes = twoBytes (length bytes) ++ bytes
+measured bytes = two_bytes (length bytes) ++ bytes
 
 -- "a map of 16 bits .. saying which exist, then the length and record of their common part, then the length and difference of each version that
 -- exists"
 unfoldable pub state_of : Programs → List ℕ → List ℕ → List ℕ
-state_of ps part differences = twoBytes (mapOf ps) ++ (measured part ++ differences)
+state_of ps part differences = two_bytes (map_of ps) ++ (measured part ++ differences)
 
 -- "An empty store is two zero bytes."
-abbrev pub emptyState : List ℕ
-emptyState = 0 ∷ 0 ∷ []
+abbrev pub empty_state : List ℕ
+empty_state = 0 ∷ 0 ∷ []
 
 -- "too few bytes for its state is 21"
 unfoldable pub within : ℕ → List ℕ → Made
@@ -81,7 +81,7 @@ module _ (n : ℕ) (t : List ℕ) where
   differences part [] = made []
   differences part (none ∷ ps) = differences part ps
   differences part (some p ∷ ps) =
-      and_then (differenceOf n t part p) λ d. and_then (differences part ps) λ ds. made (measured d ++ ds)
+      and_then (difference_of n t part p) λ d. and_then (differences part ps) λ ds. made (measured d ++ ds)
 
   -- "stores the common part of its programs .. and every program's difference from it": 13 comes before 21.
   unfoldable pub stored : ℕ → List ℕ → Programs → Made
@@ -90,28 +90,28 @@ module _ (n : ℕ) (t : List ℕ) where
   -- "the common part of its programs, folded in version order": that of the programs so far, if any, and one more; or 11.
   abbrev pub joined : Option (List ℕ) → List ℕ → Made
   joined none p = made p
-  joined (some part) p = commonPart n t part p
+  joined (some part) p = common_part n t part p
 
   -- The way is "an empty store into which the remaining programs were put in version order under their numbers". `done` are the versions behind,
   -- with their common part and the state that stores them; the other versions lie ahead. "on the way, after a step's 11 and 13, too few bytes for
   -- its state is 21".
-  unfoldable pub wayFrom : ℕ → Programs → Option (List ℕ) → List ℕ → Programs → Made
-  wayFrom room done part state [] = made state
-  wayFrom room done part state (none ∷ ahead) = wayFrom room (done ++ none ∷ []) part state ahead
-  wayFrom room done part state (some p ∷ ahead) =
+  unfoldable pub way_from : ℕ → Programs → Option (List ℕ) → List ℕ → Programs → Made
+  way_from room done part state [] = made state
+  way_from room done part state (none ∷ ahead) = way_from room (done ++ none ∷ []) part state ahead
+  way_from room done part state (some p ∷ ahead) =
       and_then (joined part p) λ c.
       and_then (stored room c (done ++ some p ∷ [])) λ s.
-      wayFrom room (done ++ some p ∷ []) (some c) s ahead
+      way_from room (done ++ some p ∷ []) (some c) s ahead
 
   -- The whole way of programs in a room of so many bytes.
   unfoldable pub way : ℕ → Programs → Made
-  way room ps = wayFrom room [] none emptyState ps
+  way room ps = way_from room [] none empty_state ps
 
 -- A record behind its length, and what stands behind the record; none where the bytes end early.
-unfoldable pub takeMeasured : List ℕ → Option (List ℕ × List ℕ)
-takeMeasured [] = none
-takeMeasured (low ∷ []) = none
-takeMeasured (low ∷ high ∷ rest) =
+unfoldable pub take_measured : List ℕ → Option (List ℕ × List ℕ)
+take_measured [] = none
+take_measured (low ∷ []) = none
+take_measured (low ∷ high ∷ rest) =
     cond (leb (low + 256 * high) (length rest)) (some (take (low + 256 * high) rest, drop (low + 256 * high) rest)) none
 
 -- The first list is the beginning of the second.
@@ -132,21 +132,21 @@ module _ (n : ℕ) (t : List ℕ) where
   restored part zero bits bytes = some []
   restored part (suc count) bits bytes =
       cond (eqb (bits % 2) 1)
-      (bind (takeMeasured bytes) λ d.
-      bind (recordIn (combination n t d.0 part)) λ p.
+      (bind (take_measured bytes) λ d.
+      bind (record_in (combination n t d.0 part)) λ p.
       map (λ ps. some p ∷ ps) (restored part count (bits / 2) d.1))
       (map (λ ps. none ∷ ps) (restored part count (bits / 2) bytes))
 
   -- The programs by a map and the bytes behind it.
-  abbrev pub unpackedBy : ℕ → List ℕ → Option Programs
-  unpackedBy bits rest =
-      cond (eqb bits 0) (some noPrograms) (bind (takeMeasured rest) λ part. restored part.0 16 bits part.1)
+  abbrev pub unpacked_by : ℕ → List ℕ → Option Programs
+  unpacked_by bits rest =
+      cond (eqb bits 0) (some no_programs) (bind (take_measured rest) λ part. restored part.0 16 bits part.1)
 
   -- The only programs whose state the bytes can begin with.
   unfoldable pub unpacked : List ℕ → Option Programs
   unpacked [] = none
   unpacked (low ∷ []) = none
-  unpacked (low ∷ high ∷ rest) = unpackedBy (low + 256 * high) rest
+  unpacked (low ∷ high ∷ rest) = unpacked_by (low + 256 * high) rest
 
   -- The programs that a buffer holds: its first bytes are the state that their way "within its length" ends in. "A buffer above 16,384 bytes"
   -- holds none.

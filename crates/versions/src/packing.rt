@@ -5,7 +5,7 @@ ghost use Rattle.lattice.specs.Table.{accepted};
 ghost use Rattle.replies.specs.Reply.{Bounded, resulting};
 ghost use Rattle.calls.specs.Calls.{differing};
 ghost use Rattle.versions.specs.State.{Programs, stored, taken};
-ghost use Rattle.versions.specs.Slots.{Slotted, programsIn, slot_at};
+ghost use Rattle.versions.specs.Slots.{Slotted, programs_in, slot_at};
 ghost use Rattle.versions.specs.Promise.{onward, packed, standing};
 
 use difference::Options;
@@ -24,7 +24,7 @@ pub fn pack(
     ensures long { length state.new ≡ length state.old }
     ensures inside { Bounded result (length state.old) }
     ensures packs { taken (resulting result state.new) ≡
-        stored n table.now (length state.old) part.now (take count (programsIn slots.now)) }
+        stored n table.now (length state.old) part.now (take count (programs_in slots.now)) }
 {
     gathering::parts::put_length(0, crate::slots::map_of(slots, count), state);
     crate::slots::put_measured(part, 2, state);

@@ -2,8 +2,8 @@
 
 ghost use Rattle.std.specs.Prelude.{◌≡◌, true, ◌*◌, ◌≤◌, ◌<◌, drop, length, take};
 ghost use Rattle.gathering.specs.Gathering.{length_at};
-ghost use Rattle.versions.specs.State.{mapOf};
-ghost use Rattle.versions.specs.Slots.{Slotted, programsIn};
+ghost use Rattle.versions.specs.State.{map_of};
+ghost use Rattle.versions.specs.Slots.{Slotted, programs_in};
 ghost use Rattle.versions.specs.Promise.{EndsAt, NoneFrom, Puts};
 
 // The number of versions, the bytes of a slot, and those of all slots.
@@ -48,7 +48,7 @@ pub fn length_in(slots: &[u8], version: usize) -> usize
 // Whether no version from this one on exists.
 pub fn is_none_from(slots: &[u8], version: usize) -> bool
     requires { Slotted slots.now × (version ≤ 16) }
-    ensures { result ≡ true → NoneFrom version 16 (programsIn slots.now) }
+    ensures { result ≡ true → NoneFrom version 16 (programs_in slots.now) }
 {
     let mut v = version;
     while v < VERSIONS {
@@ -63,7 +63,7 @@ pub fn is_none_from(slots: &[u8], version: usize) -> bool
 // The map of the first `count` versions: bit v is set where version v exists.
 pub fn map_of(slots: &[u8], count: usize) -> usize
     requires { Slotted slots.now × (count ≤ 16) }
-    ensures { (result ≡ mapOf (take count (programsIn slots.now))) × (result < 65536) }
+    ensures { (result ≡ map_of (take count (programs_in slots.now))) × (result < 65536) }
 {
     let mut bits = 0;
     let mut v = count;

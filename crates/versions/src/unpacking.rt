@@ -5,7 +5,7 @@ ghost use Rattle.std.proofs.Math.Option.{none, some};
 ghost use Rattle.lattice.specs.Table.{accepted};
 ghost use Rattle.bounds.specs.Opening.{OpenedFor};
 ghost use Rattle.versions.specs.State.{combination, restored};
-ghost use Rattle.versions.specs.Slots.{Absent, Slotted, programsIn};
+ghost use Rattle.versions.specs.Slots.{Absent, Slotted, programs_in};
 ghost use Rattle.versions.specs.Promise.{Restores, Unpacks};
 
 use acceptance::Opened;
@@ -55,7 +55,7 @@ fn restore_all<'a>(
 ) -> bool
     requires { OpenedFor false n table.now sets.now cells.now × Absent slots.old 0 }
     ensures slotted { Slotted slots.new }
-    ensures differences_value { restored n table.now part.now 16 bits differences.now ≡ cond result (some (programsIn slots.new)) none }
+    ensures differences_value { restored n table.now part.now 16 bits differences.now ≡ cond result (some (programs_in slots.new)) none }
 {
     let mut left = bits;
     let mut at = 0;

@@ -11,7 +11,7 @@ use lib.ListN.{length, get_or, set, replicate, length-set, length-replicate}
 use lib.Seq.{get_or-set_same, get_or-set_other}
 use Rattle.visits.specs.declared.sorting.Leaving.TheVariants.{Count, Back}
 use Rattle.visits.specs.Colouring.{whites, Placed, Advanced, Entered, Leaves}
-use Rattle.layout.specs.Layout.{size, linksFrom, rowEnd, targetAt, Sound}
+use Rattle.layout.specs.Layout.{size, links_from, row_end, target_at, Sound}
 use Rattle.visits.specs.Walks.{Leads, Reaches, Sorts}
 
 whites-paint : (n : ℕ) (l : List ℕ) (i a : ℕ) → whites n (set l i (suc a)) ≤ whites n l
@@ -47,9 +47,9 @@ apart l h e = h (ap (λ (x : ℕ). get_or l x 0) e)
 -- The walk is at place k of the links of v, and the targets before k are finished. `start` is the colouring once v is on the way down.
 pub record Passing (ws start : List ℕ) (v done : ℕ) (colour order : List ℕ) (k count : ℕ) : Type 0 where
   pub advanced : Advanced ws start done colour order count
-  pub passed : (j : ℕ) → j < k → linksFrom ws v ≤ j → 2 ≤ get_or colour (targetAt ws j) 0
-  pub reached : linksFrom ws v ≤ k
-  pub ahead : k ≤ rowEnd ws v
+  pub passed : (j : ℕ) → j < k → links_from ws v ≤ j → 2 ≤ get_or colour (target_at ws j) 0
+  pub reached : links_from ws v ≤ k
+  pub ahead : k ≤ row_end ws v
   pub room : count + whites (size ws) colour < size ws
 
 module _ {ws : List ℕ} where
@@ -111,7 +111,7 @@ module _ {ws : List ℕ} where
       whites-fall (size ws) before v 0 e.inside (has-colour e) e.white
 
   pub passing-start : {before order : List ℕ} {v done : ℕ} → Entered ws before order v done →
-      Passing ws (set before v 1) v done (set before v 1) order (linksFrom ws v) done
+      Passing ws (set before v 1) v done (set before v 1) order (links_from ws v) done
   passing-start {before} {order} {v} {done} e = record {
     advanced = advance-none (placed-down e);
     passed = λ j h l. omega arith;
@@ -126,10 +126,10 @@ module _ {ws : List ℕ} where
     pub listed : v + 2 < length ws
     listed = (e.sound.shaped.node v e.inside).listed
 
-    pub place-in : {k : ℕ} → k < rowEnd ws v → k < length ws
+    pub place-in : {k : ℕ} → k < row_end ws v → k < length ws
     place-in h = omega (arith, (e.sound.shaped.node v e.inside).ended)
 
-    link : (k : ℕ) → linksFrom ws v ≤ k → k < rowEnd ws v → Leads ws v (targetAt ws k)
+    link : (k : ℕ) → links_from ws v ≤ k → k < row_end ws v → Leads ws v (target_at ws k)
     link k l h = record { inside = e.inside; place = k; low = l; high = h; target_is = refl }
 
     lands : (w : ℕ) → Leads ws v w → w < size ws
@@ -144,15 +144,15 @@ module _ {ws : List ℕ} where
       go (no n) = onward (e.above u h (sym (get_or-set_other before v u 1 0 n) ∙ a.descending u c)) l
 
     module _ {colour order : List ℕ} {k count : ℕ} (p : Passing ws (set before v 1) v done colour order k count) where
-      pub target-in : k < rowEnd ws v → targetAt ws k < size ws
+      pub target-in : k < row_end ws v → target_at ws k < size ws
       target-in h = e.sound.targets v k e.inside p.reached h
 
       -- a link to a node on the way down closes a cycle
-      pub closes : k < rowEnd ws v → get_or colour (targetAt ws k) 0 ≡ 1 → (u : ℕ) × Reaches ws u u
-      closes h c = (targetAt ws k, above p.advanced (link k p.reached h) (targetAt ws k) (target-in h) c)
+      pub closes : k < row_end ws v → get_or colour (target_at ws k) 0 ≡ 1 → (u : ℕ) × Reaches ws u u
+      closes h c = (target_at ws k, above p.advanced (link k p.reached h) (target_at ws k) (target-in h) c)
 
       -- at a link to a white node
-      pub entered : k < rowEnd ws v → get_or colour (targetAt ws k) 0 ≡ 0 → Entered ws colour order (targetAt ws k) count
+      pub entered : k < row_end ws v → get_or colour (target_at ws k) 0 ≡ 0 → Entered ws colour order (target_at ws k) count
       entered h c = record {
         sound = e.sound;
         placed = p.advanced.placed;
@@ -163,28 +163,28 @@ module _ {ws : List ℕ} where
       }
 
       -- past a link to a finished node, and past one whose target was finished from here
-      pub passing-over : k < rowEnd ws v → 2 ≤ get_or colour (targetAt ws k) 0 →
+      pub passing-over : k < row_end ws v → 2 ≤ get_or colour (target_at ws k) 0 →
           Passing ws (set before v 1) v done colour order (k + 1) count
       passing-over h c = record {
         advanced = p.advanced;
-        passed = below_more (λ j. linksFrom ws v ≤ j → 2 ≤ get_or colour (targetAt ws j) 0) k p.passed (λ l. c);
+        passed = below_more (λ j. links_from ws v ≤ j → 2 ≤ get_or colour (target_at ws j) 0) k p.passed (λ l. c);
         reached = omega (arith, p.reached);
         ahead = omega arith;
         room = p.room;
       }
 
-      pub passing-down : {later order₁ : List ℕ} {more : ℕ} → k < rowEnd ws v → Advanced ws colour count later order₁ more →
-          2 ≤ get_or later (targetAt ws k) 0 → Passing ws (set before v 1) v done later order₁ (k + 1) more
+      pub passing-down : {later order₁ : List ℕ} {more : ℕ} → k < row_end ws v → Advanced ws colour count later order₁ more →
+          2 ≤ get_or later (target_at ws k) 0 → Passing ws (set before v 1) v done later order₁ (k + 1) more
       passing-down {later} {order₁} {more} h a c = record {
         advanced = advance-on p.advanced a;
-        passed = below_more (λ j. linksFrom ws v ≤ j → 2 ≤ get_or later (targetAt ws j) 0) k (λ j i l. still a (targetAt ws j) (p.passed j i l)) (λ l. c);
+        passed = below_more (λ j. links_from ws v ≤ j → 2 ≤ get_or later (target_at ws j) 0) k (λ j i l. still a (target_at ws j) (p.passed j i l)) (λ l. c);
         reached = omega (arith, p.reached);
         ahead = omega arith;
         room = omega (arith, p.room, a.counted);
       }
 
       -- v finished after its last link
-      module _ (last : rowEnd ws v ≤ k) where
+      module _ (last : row_end ws v ≤ k) where
         down : get_or colour v 0 ≡ 1
         down = p.advanced.kept v (omega (arith, get_or-set_same before v 1 0 (has-colour e))) ∙ get_or-set_same before v 1 0 (has-colour e)
 

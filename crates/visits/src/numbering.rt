@@ -3,7 +3,7 @@
 
 ghost use Rattle.std.specs.Prelude.{◌≡◌, ℕ, ◌≤◌, ◌<◌, length, get_or};
 ghost use Rattle.layout.specs.Layout.{Sound};
-ghost use Rattle.visits.specs.Visiting.{Finds, Visitable, below, seenOf};
+ghost use Rattle.visits.specs.Visiting.{Finds, Visitable, below, seen_of};
 ghost use Rattle.visits.specs.Walks.{Numbers};
 
 // The number of a node that has none yet.
@@ -20,7 +20,7 @@ fn visit<'a>(
     given: usize,
 ) -> usize
     requires { Visitable graph.now numbers.old visited.old v given }
-    ensures { Finds graph.now (below graph.now depth v (seenOf visited.old given)) result numbers.new visited.new }
+    ensures { Finds graph.now (below graph.now depth v (seen_of visited.old given)) result numbers.new visited.new }
 {
     numbers[v] = given as u16;
     visited[given] = v as u16;

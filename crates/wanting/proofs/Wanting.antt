@@ -14,20 +14,20 @@ use lib.Bits.{bit_and}
 use lib.ListN.{length, get_or, set, length-set}
 use lib.Seq.{get_or-set_same, get_or-set_other}
 use Rattle.graphs.specs.Rows.{from}
-use Rattle.graphs.specs.Difference.{meetWhere}
+use Rattle.graphs.specs.Difference.{meet_where}
 use Rattle.lattice.specs.Label.{Label}
-use Rattle.lattice.specs.Labels.{tableLabels, Known, wantedLevel, wantedLabel}
+use Rattle.lattice.specs.Labels.{table_labels, Known, wanted_level, wanted_label}
 use Rattle.lattice.specs.Table.{accepted, found, cell, wanted}
 use Rattle.lattice.specs.Words.{Words}
 use Rattle.lattice.proofs.Every.{every-all, every-fails}
 use Rattle.lattice.proofs.Laws.{accepted-size, top-type, wanted-type}
 use Rattle.lattice.proofs.Lawful.{label-parts, plain_known, meet-known}
 use Rattle.lattice.proofs.Restoring.{meet-word}
-use Rattle.layout.specs.Layout.{header, labelFrom, size, label_at, Shaped}
-use Rattle.layout.specs.Builder.{putLabel}
+use Rattle.layout.specs.Layout.{header, label_from, size, label_at, Shaped}
+use Rattle.layout.specs.Builder.{put_label}
 use Rattle.layout.proofs.Builder.{label_same, length-put, put-before, label-put}
 use Rattle.wanting.specs.Asked.{Asked}
-use Rattle.wanting.specs.Wanted.{LabelsOver, MetLong, MetPart, word_of, Met, MetBy, LabelHeld, WantedLabelOver, wantedAt, Wants, WantsAll, metFrom}
+use Rattle.wanting.specs.Wanted.{LabelsOver, MetLong, MetPart, word_of, Met, MetBy, LabelHeld, WantedLabelOver, wanted_at, Wants, WantsAll, met_from}
 
 -- The first k words have the value.
 pub record Filling (value k : ℕ) (types : List ℕ) : Type 0 where
@@ -45,31 +45,31 @@ filling-next {value} {k} {types} f h =
 -- The meet of labels.
 
 -- The meet from y on is the label of y, if y lies over v, met with the meet from the next node on.
-met-cons : (n : ℕ) (t g map : List ℕ) (y c v : ℕ) → metFrom n t g map y (suc c) v ≡
-    cond (eqb (get_or map y 0) v) ((tableLabels n t).meet (label_at g y) (metFrom n t g map (suc y) c v)) (metFrom n t g map (suc y) c v)
-unfolding metFrom meetWhere from
+met-cons : (n : ℕ) (t g map : List ℕ) (y c v : ℕ) → met_from n t g map y (suc c) v ≡
+    cond (eqb (get_or map y 0) v) ((table_labels n t).meet (label_at g y) (met_from n t g map (suc y) c v)) (met_from n t g map (suc y) c v)
+unfolding met_from meet_where from
 met-cons n t g map y c v = refl
 
 -- A meet of labels of the table is a label of the table.
 met-known : (n : ℕ) (t g map : List ℕ) → accepted n t ≡ true → (y c v : ℕ) → ((x : ℕ) → x < y + c → Known n (label_at g x)) →
-    Known n (metFrom n t g map y c v)
-unfolding metFrom meetWhere from
+    Known n (met_from n t g map y c v)
+unfolding met_from meet_where from
 met-known n t g map ok y zero v known = plain_known n (n - 1) (top-type n t ok)
 met-known n t g map ok y (suc c) v known =
     go (eqb (get_or map y 0) v) (met-known n t g map ok (suc y) c v (λ x l. known x (omega arith)))
   where
-    go : (b : Bool) → Known n (metFrom n t g map (suc y) c v) →
-        Known n (cond b ((tableLabels n t).meet (label_at g y) (metFrom n t g map (suc y) c v)) (metFrom n t g map (suc y) c v))
-    go true later = meet-known n t ok (label_at g y) (metFrom n t g map (suc y) c v) (known y (omega arith)) later
+    go : (b : Bool) → Known n (met_from n t g map (suc y) c v) →
+        Known n (cond b ((table_labels n t).meet (label_at g y) (met_from n t g map (suc y) c v)) (met_from n t g map (suc y) c v))
+    go true later = meet-known n t ok (label_at g y) (met_from n t g map (suc y) c v) (known y (omega arith)) later
     go false later = later
 
 -- An array has one part of the meet over each node, taken over the nodes of g after y. `op` makes the part of a meet from the parts of two labels.
 module _ (part : Label → ℕ) (op : ℕ → ℕ → ℕ) (n : ℕ) (t : List ℕ) (nodes : ℕ) (g map : List ℕ) (y c : ℕ) where
   abbrev rest : ℕ → Label
-  rest v = metFrom n t g map (suc y) c v
+  rest v = met_from n t g map (suc y) c v
 
   -- The label of y enters the meet at the node of s that y lies over.
-  part-met : (values : List ℕ) → ((v : ℕ) → part ((tableLabels n t).meet (label_at g y) (rest v)) ≡ op (part (label_at g y)) (part (rest v))) →
+  part-met : (values : List ℕ) → ((v : ℕ) → part ((table_labels n t).meet (label_at g y) (rest v)) ≡ op (part (label_at g y)) (part (rest v))) →
       get_or map y 0 < length values → get_or map y 0 < nodes → MetPart part n t nodes g map (suc y) c values →
       MetPart part n t nodes g map y (suc c) (set values (get_or map y 0) (op (part (label_at g y)) (get_or values (get_or map y 0) 0)))
   part-met values law room inside before v l = go (ℕ_discrete v u) ∙ ap part (sym (met-cons n t g map y c v))
@@ -83,14 +83,14 @@ module _ (part : Label → ℕ) (op : ℕ → ℕ → ℕ) (n : ℕ) (t : List �
       new : ℕ
       new = op (part a) (get_or values u 0)
 
-      go : Dec (v ≡ u) → get_or (set values u new) v 0 ≡ part (cond (eqb u v) ((tableLabels n t).meet a (rest v)) (rest v))
+      go : Dec (v ≡ u) → get_or (set values u new) v 0 ≡ part (cond (eqb u v) ((table_labels n t).meet a (rest v)) (rest v))
       go (yes e) =
           ap (λ (i : ℕ). get_or (set values u new) i 0) e ∙ get_or-set_same values u new 0 room ∙
           ap (op (part a)) (before u inside ∙ ap (λ (i : ℕ). part (rest i)) (sym e)) ∙ sym (law v) ∙
-          ap (λ (b : Bool). part (cond b ((tableLabels n t).meet a (rest v)) (rest v))) (sym (eq-eqb u v (sym e)))
+          ap (λ (b : Bool). part (cond b ((table_labels n t).meet a (rest v)) (rest v))) (sym (eq-eqb u v (sym e)))
       go (no d) =
           get_or-set_other values u v new 0 d ∙ before v l ∙
-          ap (λ (b : Bool). part (cond b ((tableLabels n t).meet a (rest v)) (rest v))) (sym (ne_eqb u v (λ e. d (sym e))))
+          ap (λ (b : Bool). part (cond b ((table_labels n t).meet a (rest v)) (rest v))) (sym (ne_eqb u v (λ e. d (sym e))))
 
 -- The three arrays hold the meet over each node of s, taken over the nodes of g from y on, for every accepted table with these words.
 pub record Meeting (n : ℕ) (ws : List ℕ) (nodes : ℕ) (g map : List ℕ) (y : ℕ) (over lowest highest : List ℕ) : Type 0 where
@@ -111,7 +111,7 @@ module _ {n : ℕ} {ws : List ℕ} {nodes : ℕ} {g map : List ℕ} where
   pub met_start : {over lowest highest : List ℕ} → LabelsOver n nodes g map → MetLong over lowest highest →
       ((v : ℕ) → v < nodes → get_or over v 0 ≡ get_or ws (n - 1) 0) → ((v : ℕ) → v < nodes → get_or lowest v 0 ≡ 0) →
       ((v : ℕ) → v < nodes → get_or highest v 0 ≡ 255) → Meeting n ws nodes g map (size g) over lowest highest
-  unfolding metFrom meetWhere from
+  unfolding met_from meet_where from
   met_start labelled long top low high =
       let z : size g - size g ≡ 0 = omega arith in
       record {
@@ -171,15 +171,15 @@ module _ {n : ℕ} {ws : List ℕ} {nodes : ℕ} {g map : List ℕ} where
             }
           where
             behind : ℕ → Label
-            behind v = metFrom n t g map (suc (y - 1)) (size g - y) v
+            behind v = met_from n t g map (suc (y - 1)) (size g - y) v
 
-            law : (v : ℕ) → word_of ws ((tableLabels n t).meet a (behind v)) ≡ bit_and (word_of ws a) (word_of ws (behind v))
+            law : (v : ℕ) → word_of ws ((table_labels n t).meet a (behind v)) ≡ bit_and (word_of ws a) (word_of ws (behind v))
             law v =
                 sym (meet-word n t ws ok words a.type (behind v).type (m.labelled.known (y - 1) lower).type
                 (met-known n t g map ok (suc (y - 1)) (size g - y) v (λ x l. m.labelled.known x (omega (arith, m.left)))).type)
 
             next : (part : Label → ℕ) (op : ℕ → ℕ → ℕ) (values : List ℕ) →
-                ((v : ℕ) → part ((tableLabels n t).meet a (behind v)) ≡ op (part a) (part (behind v))) → length values ≡ 255 →
+                ((v : ℕ) → part ((table_labels n t).meet a (behind v)) ≡ op (part a) (part (behind v))) → length values ≡ 255 →
                 MetPart part n t nodes g map y (size g - y) values →
                 MetPart part n t nodes g map (y - 1) (size g - (y - 1)) (set values u (op (part a) (get_or values u 0)))
             next part op values law long before =
@@ -207,18 +207,18 @@ module _ {n : ℕ} {ws : List ℕ} {nodes : ℕ} {g map : List ℕ} where
 -- Wanted labels.
 
 -- The label with the type c and the wanted levels of p over q.
-abbrev wantedOf : Label → Label → ℕ → Label
-wantedOf p q c =
-    record { type = c; lowest = wantedLevel 0 p.lowest q.lowest; highest = wantedLevel 255 p.highest q.highest }
+abbrev wanted_of : Label → Label → ℕ → Label
+wanted_of p q c =
+    record { type = c; lowest = wanted_level 0 p.lowest q.lowest; highest = wanted_level 255 p.highest q.highest }
 
 -- The answer of the search for a wanted type, with the wanted levels, is the wanted label.
 pub wanted-tells : (n : ℕ) (t : List ℕ) (p q label : Label) → n ≤ 64 → label.type ≡ cell (wanted n t p.type q.type) →
-    label.lowest ≡ wantedLevel 0 p.lowest q.lowest → label.highest ≡ wantedLevel 255 p.highest q.highest →
-    LabelHeld (wantedLabel n t p q) label
-unfolding wantedLabel
+    label.lowest ≡ wanted_level 0 p.lowest q.lowest → label.highest ≡ wanted_level 255 p.highest q.highest →
+    LabelHeld (wanted_label n t p q) label
+unfolding wanted_label
 wanted-tells n t p q label few e low high = go (wanted n t p.type q.type) refl
   where
-    go : (o : Option ℕ) → wanted n t p.type q.type ≡ o → LabelHeld (Option.map (wantedOf p q) o) label
+    go : (o : Option ℕ) → wanted n t p.type q.type ≡ o → LabelHeld (Option.map (wanted_of p q) o) label
     go none d = let z : label.type ≡ 64 = e ∙ ap cell d in record { some-stands = λ h. absurd (omega arith); none-stands = λ h. refl }
     go (some c) d =
         let z : label.type ≡ c = e ∙ ap cell d in
@@ -228,7 +228,7 @@ wanted-tells n t p q label few e low high = go (wanted n t p.type q.type) refl
         }
 
 -- A wanted level is at most 255.
-level-most : (widest p q : ℕ) → widest ≤ 255 → p ≤ 255 → wantedLevel widest p q ≤ 255
+level-most : (widest p q : ℕ) → widest ≤ 255 → p ≤ 255 → wanted_level widest p q ≤ 255
 level-most widest p q a b = go (eqb p q)
   where
     go : (b : Bool) → cond b widest p ≤ 255
@@ -236,10 +236,10 @@ level-most widest p q a b = go (eqb p q)
     go false = b
 
 -- a wanted label is a label of the table
-pub wanted-known : (n : ℕ) (t : List ℕ) (p q c : Label) → Known n p → wantedLabel n t p q ≡ some c → Known n c
-unfolding wantedLabel
+pub wanted-known : (n : ℕ) (t : List ℕ) (p q c : Label) → Known n p → wanted_label n t p q ≡ some c → Known n c
+unfolding wanted_label
 wanted-known n t p q c k e =
-    let (a, d, f) = (map-eq-some_iff (wantedOf p q) (wanted n t p.type q.type)).0 e in
+    let (a, d, f) = (map-eq-some_iff (wanted_of p q) (wanted n t p.type q.type)).0 e in
     subst (Known n) f
     (record {
       type = wanted-type n t p.type q.type a d;
@@ -279,14 +279,14 @@ module _ {n : ℕ} {t ws s g map over lowest highest : List ℕ} where
 
   module _ {k : ℕ} {p label : Label} {labels : List ℕ} (w : Wanting n t ws s g map over lowest highest k labels) (h : k < size s)
       (own : p ≡ label_at s k) (answer : WantedLabelOver n ws p (get_or over k 0) (get_or lowest k 0) (get_or highest k 0) label) where
-    told : LabelHeld (wantedAt n t s g map k) label
+    told : LabelHeld (wanted_at n t s g map k) label
     told =
         subst (λ (l : Label). WantedLabelOver n ws l (get_or over k 0) (get_or lowest k 0) (get_or highest k 0) label) own answer t w.ok
-        w.words (metFrom n t g map 0 (size g) k)
+        w.words (met_from n t g map 0 (size g) k)
         (met-known n t g map w.ok 0 (size g) k (λ x l. w.upper-known x (omega arith)))
         (w.met-each.types k h) (w.met-each.lows k h) (w.met-each.highs k h)
 
-    pub wants-next : {labels' : List ℕ} → label.type < 64 → labels' ≡ putLabel labels (2 * k) label →
+    pub wants-next : {labels' : List ℕ} → label.type < 64 → labels' ≡ put_label labels (2 * k) label →
         Wanting n t ws s g map over lowest highest (k + 1) labels'
     wants-next {labels'} low e =
         record {
@@ -303,28 +303,28 @@ module _ {n : ℕ} {t ws s g map over lowest highest : List ℕ} where
               (record { long = length-put labels (2 * k) label ∙ w.wants.long; each = λ v l. each v l (ℕ_discrete v k) });
         }
       where
-        is : wantedAt n t s g map k ≡ some label
+        is : wanted_at n t s g map k ≡ some label
         is = told.some-stands low
 
-        here : labelFrom (putLabel labels (2 * k) label) (2 * k) ≡ label
+        here : label_from (put_label labels (2 * k) label) (2 * k) ≡ label
         here =
             label-put labels (2 * k) label (omega (arith, w.wants.long, w.small))
-            (wanted-known n t (label_at s k) (metFrom n t g map 0 (size g) k) label (w.known k h) is).highest
+            (wanted-known n t (label_at s k) (met_from n t g map 0 (size g) k) label (w.known k h) is).highest
 
-        each : (v : ℕ) → v < k + 1 → Dec (v ≡ k) → wantedAt n t s g map v ≡ some (labelFrom (putLabel labels (2 * k) label) (2 * v))
+        each : (v : ℕ) → v < k + 1 → Dec (v ≡ k) → wanted_at n t s g map v ≡ some (label_from (put_label labels (2 * k) label) (2 * v))
         each v l (yes d) =
-            ap (wantedAt n t s g map) d ∙ is ∙
-            ap some (sym (ap (λ (i : ℕ). labelFrom (putLabel labels (2 * k) label) (2 * i)) d ∙ here))
+            ap (wanted_at n t s g map) d ∙ is ∙
+            ap some (sym (ap (λ (i : ℕ). label_from (put_label labels (2 * k) label) (2 * i)) d ∙ here))
         each v l (no d) =
             w.wants.each v (omega arith) ∙
             ap some
-            (sym (label_same labels (putLabel labels (2 * k) label) (2 * v) (put-before labels (2 * k) label (2 * v) (2 * v + header) (omega arith))))
+            (sym (label_same labels (put_label labels (2 * k) label) (2 * v) (put-before labels (2 * k) label (2 * v) (2 * v + header) (omega arith))))
 
     -- If node k has no wanted label, the answer is false.
     pub wants-none : 64 ≤ label.type → (labels' : List ℕ) → WantsAll n t s g map false labels'
     wants-none high labels' =
         record {
-          answers = sym (every-fails (λ v. found (wantedAt n t s g map v)) (size s) k h (told.none-stands high));
+          answers = sym (every-fails (λ v. found (wanted_at n t s g map v)) (size s) k h (told.none-stands high));
           wants = λ q. let z : ◌≡◌ {A = ℕ} 0 1 = cc in absurd (omega arith);
         }
 
@@ -332,6 +332,6 @@ module _ {n : ℕ} {t ws s g map over lowest highest : List ℕ} where
       WantsAll n t s g map true labels
   wants-done {k} {labels} w h =
       record {
-        answers = sym (every-all (λ v. found (wantedAt n t s g map v)) (size s) λ v l. ap found (w.wants.each v (omega arith)));
+        answers = sym (every-all (λ v. found (wanted_at n t s g map v)) (size s) λ v l. ap found (w.wants.each v (omega arith)));
         wants = λ q. record { long = w.wants.long; each = λ v l. w.wants.each v (omega arith) };
       }

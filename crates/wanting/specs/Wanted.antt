@@ -3,16 +3,16 @@
 use Rattle.std.specs.Prelude.{◌≡◌, Bool, true, false, List, ℕ, ◌*◌, ◌≤◌, ◌<◌, eqb, length, get_or}
 use Rattle.std.proofs.Math.Option.{Option, some}
 use Rattle.graphs.specs.Rows.{from}
-use Rattle.graphs.specs.Difference.{meetWhere}
+use Rattle.graphs.specs.Difference.{meet_where}
 use Rattle.lattice.specs.Label.{Label}
 use Rattle.lattice.specs.Table.{every, found, accepted}
 use Rattle.lattice.specs.Words.{Words}
-use Rattle.lattice.specs.Labels.{tableLabels, Known, wantedLabel}
-use Rattle.layout.specs.Layout.{header, labelFrom, size, label_at, Sound}
+use Rattle.lattice.specs.Labels.{table_labels, Known, wanted_label}
+use Rattle.layout.specs.Layout.{header, label_from, size, label_at, Sound}
 
 -- The meet of the labels of all nodes that lie over v, among the `count` nodes of g from y on.
-unfoldable pub metFrom : ℕ → List ℕ → List ℕ → List ℕ → ℕ → ℕ → ℕ → Label
-metFrom n t g map y count v = meetWhere (tableLabels n t) (λ y. eqb (get_or map y 0) v) (λ y. label_at g y) (from y count)
+unfoldable pub met_from : ℕ → List ℕ → List ℕ → List ℕ → ℕ → ℕ → ℕ → Label
+met_from n t g map y count v = meet_where (table_labels n t) (λ y. eqb (get_or map y 0) v) (λ y. label_at g y) (from y count)
 
 -- The nodes of g have labels over n types, and `map` takes each node of g to one of `nodes` nodes.
 pub record LabelsOver (n nodes : ℕ) (g map : List ℕ) : Type 0 where
@@ -32,7 +32,7 @@ pub record MetLong (over lowest highest : List ℕ) : Type 0 where
 
 -- The value at each node v below `nodes` is `part` of the meet over v, taken over the `count` nodes of g from y on.
 abbrev pub MetPart : (Label → ℕ) → ℕ → List ℕ → ℕ → List ℕ → List ℕ → ℕ → ℕ → List ℕ → Type 0
-MetPart part n t nodes g map y count values = (v : ℕ) → v < nodes → get_or values v 0 ≡ part (metFrom n t g map y count v)
+MetPart part n t nodes g map y count values = (v : ℕ) → v < nodes → get_or values v 0 ≡ part (met_from n t g map y count v)
 
 -- the word of a label's type
 abbrev pub word_of : List ℕ → Label → ℕ
@@ -58,18 +58,18 @@ pub record LabelHeld (wanted : Option Label) (label : Label) : Type 0 where
 abbrev pub WantedLabelOver : ℕ → List ℕ → Label → ℕ → ℕ → ℕ → Label → Type 0
 WantedLabelOver n ws p over lowest highest label =
     (t : List ℕ) → accepted n t ≡ true → Words n t false ws → (q : Label) → Known n q → over ≡ word_of ws q → lowest ≡ q.lowest →
-    highest ≡ q.highest → LabelHeld (wantedLabel n t p q) label
+    highest ≡ q.highest → LabelHeld (wanted_label n t p q) label
 
 -- the wanted label of the node v of s
-abbrev pub wantedAt : ℕ → List ℕ → List ℕ → List ℕ → List ℕ → ℕ → Option Label
-wantedAt n t s g map v = wantedLabel n t (label_at s v) (metFrom n t g map 0 (size g) v)
+abbrev pub wanted_at : ℕ → List ℕ → List ℕ → List ℕ → List ℕ → ℕ → Option Label
+wanted_at n t s g map v = wanted_label n t (label_at s v) (met_from n t g map 0 (size g) v)
 
 -- `labels` has the wanted labels of the first k nodes of s.
 pub record Wants (n : ℕ) (t s g map : List ℕ) (k : ℕ) (labels : List ℕ) : Type 0 where
   pub long : length labels ≡ 510
-  pub each : (v : ℕ) → v < k → wantedAt n t s g map v ≡ some (labelFrom labels (header * v))
+  pub each : (v : ℕ) → v < k → wanted_at n t s g map v ≡ some (label_from labels (header * v))
 
 -- The answer tells whether every node of s has a wanted label. If so, `labels` has the wanted labels.
 pub record WantsAll (n : ℕ) (t s g map : List ℕ) (answer : Bool) (labels : List ℕ) : Type 0 where
-  pub answers : answer ≡ every (size s) λ v. found (wantedAt n t s g map v)
+  pub answers : answer ≡ every (size s) λ v. found (wanted_at n t s g map v)
   pub wants : answer ≡ true → Wants n t s g map (size s) labels

@@ -3,7 +3,7 @@
 // node has no wanted label. This crate knows graphs in words and an accepted table; it knows no reply and no record's bytes.
 
 ghost use Rattle.std.specs.Prelude.{◌≡◌, ℕ, ◌≤◌, ◌<◌, length, get_or};
-ghost use Rattle.lattice.specs.Labels.{wantedLevel};
+ghost use Rattle.lattice.specs.Labels.{wanted_level};
 ghost use Rattle.layout.specs.Builder.{stated};
 ghost use Rattle.wanting.specs.Asked.{Asked};
 ghost use Rattle.wanting.specs.Wanted.{LabelsOver, MetBy, MetLong, WantedLabelOver, WantsAll};
@@ -54,7 +54,7 @@ fn meet_over<'a>(
 
 // The wanted level for the level p in s, over the level q: `widest` if p equals q, else p.
 fn wanted_level(widest: u8, p: u8, q: u8) -> u8
-    ensures { result ≡ wantedLevel widest p q }
+    ensures { result ≡ wanted_level widest p q }
 {
     if p == q { widest } else { p }
 }

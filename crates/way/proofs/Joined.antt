@@ -12,13 +12,13 @@ use Rattle.acceptance.proofs.Acceptance.{accepted-opened}
 use Rattle.replies.specs.declared.Reply.{Reply}
 use Rattle.replies.specs.declared.Reply.TheVariants.{Length}
 use Rattle.replies.specs.Reply.{resulting, refusing, length_of, Bounded}
-use Rattle.engine.specs.Generalizing.{generalizedBeside}
+use Rattle.engine.specs.Generalizing.{generalized_beside}
 use Rattle.calls.specs.Calls.{checked, generalizing}
 use Rattle.calls.proofs.Beside.{generalizing-plain}
 use Rattle.gathering.specs.Gathering.{length_at}
 use Rattle.gathering.proofs.Told.{none-some}
-use Rattle.versions.specs.State.{Made, made, taken, blank, commonPart, joined}
-use Rattle.versions.specs.Slots.{measuredIn, Parted}
+use Rattle.versions.specs.State.{Made, made, taken, blank, common_part, joined}
+use Rattle.versions.specs.Slots.{measured_in, Parted}
 use Rattle.versions.specs.Promise.{Puts}
 use Rattle.versions.proofs.SlotLaws.{measured-none, measured-some, part_length, part-parted, part-measured}
 use Rattle.versions.proofs.Written.{Fitting, generalizing-fits, taken-least, taken-most, taken-long, taken-length}
@@ -45,33 +45,33 @@ module _ {p old new : List ℕ} (parted : Parted old) (short : length p ≤ 4854
 
 -- the first program
 pub joins-first : (n : ℕ) (t : List ℕ) {p old new : List ℕ} {l : ℕ} → l ≡ length_at old → l ≡ 0 → Parted old → length p ≤ 4854 → 1 ≤ length p → Puts p 0 old new →
-    Joins (joined n t (measuredIn old) p) (Length (length p)) new
+    Joins (joined n t (measured_in old) p) (Length (length p)) new
 joins-first n t {p} {old} is e parted short some_bytes puts =
     joins-put parted short some_bytes puts (length p) refl (ap (λ (o : Option (List ℕ)). joined n t o p) (measured-none old (sym is ∙ e)))
 
 -- The common part of two records, as the call replies and leaves it.
 pub record Common (n : ℕ) (t old p : List ℕ) (r : Reply) (out : List ℕ) : Type 0 where
   pub parted : Parted old
-  pub tells : joined n t (measuredIn old) p ≡ taken (resulting r out)
+  pub tells : joined n t (measured_in old) p ≡ taken (resulting r out)
   pub least : (l : ℕ) → r ≡ Length l → 1 ≤ l
   pub short : Bounded r 4854
   pub is-long : (l : ℕ) → r ≡ Length l → length (take l out) ≡ l
   pub long : length out ≡ 4854
 
-generalized-call : (n : ℕ) (t list a b out : List ℕ) → accepted n t ≡ true → length list ≡ 0 → generalizedBeside n t list a b out ≡ generalizing n t a b out
+generalized-call : (n : ℕ) (t list a b out : List ℕ) → accepted n t ≡ true → length list ≡ 0 → generalized_beside n t list a b out ≡ generalizing n t a b out
 generalized-call n t list a b out ok empty =
-    sym (ap (λ (o : Opened). checked (λ r. refusing r out) o (generalizedBeside n t list a b out)) (accepted-opened n t ok)) ∙
+    sym (ap (λ (o : Opened). checked (λ r. refusing r out) o (generalized_beside n t list a b out)) (accepted-opened n t ok)) ∙
     generalizing-plain n t list empty out a b
 
 pub common-part : (n : ℕ) (t list old p : List ℕ) (l : ℕ) (r : Reply) (out : List ℕ) → accepted n t ≡ true → length list ≡ 0 → Parted old →
-    l ≡ length_at old → (l ≡ 0 → ⊥) → resulting r out ≡ generalizedBeside n t list (take (2 + l - 2) (drop 2 old)) p (replicate 4854 0) →
+    l ≡ length_at old → (l ≡ 0 → ⊥) → resulting r out ≡ generalized_beside n t list (take (2 + l - 2) (drop 2 old)) p (replicate 4854 0) →
     Common n t old p r out
-unfolding commonPart blank
+unfolding common_part blank
 common-part n t list old p l r out ok empty parted is there e =
     let size : 2 + l - 2 ≡ length_at old = omega (arith, is) in
     let part : List ℕ = take (length_at old) (drop 2 old) in
     let told : resulting r out ≡ generalizing n t part p (replicate 4854 0) =
-    e ∙ ap (λ (k : ℕ). generalizedBeside n t list (take k (drop 2 old)) p (replicate 4854 0)) size ∙
+    e ∙ ap (λ (k : ℕ). generalized_beside n t list (take k (drop 2 old)) p (replicate 4854 0)) size ∙
     generalized-call n t list part p (replicate 4854 0) ok empty in
     let fits : Fitting (replicate 4854 0) (generalizing n t part p (replicate 4854 0)) = generalizing-fits (replicate 4854 0) n t part p in
     record {
@@ -84,7 +84,7 @@ common-part n t list old p l r out ok empty parted is there e =
     }
 
 module _ {n : ℕ} {t old p : List ℕ} {r : Reply} {out : List ℕ} (common : Common n t old p r out) where
-  pub joins-refused : length_of r ≡ none → Joins (joined n t (measuredIn old) p) r old
+  pub joins-refused : length_of r ≡ none → Joins (joined n t (measured_in old) p) r old
   joins-refused refused =
       record {
         parted = common.parted;
@@ -99,7 +99,7 @@ module _ {n : ℕ} {t old p : List ℕ} {r : Reply} {out : List ℕ} (common : C
     pub common-short : length (take l out) ≤ 4854
     common-short = omega (arith, common.short l e, common.is-long l e)
 
-    pub joins-common : {new : List ℕ} → Puts (take l out) 0 old new → Joins (joined n t (measuredIn old) p) (Length l) new
+    pub joins-common : {new : List ℕ} → Puts (take l out) 0 old new → Joins (joined n t (measured_in old) p) (Length l) new
     joins-common puts =
         joins-put common.parted common-short (omega (arith, common.least l e, common.is-long l e)) puts l (sym (common.is-long l e))
         (common.tells ∙ ap (λ (q : Reply). taken (resulting q out)) e)

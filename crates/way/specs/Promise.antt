@@ -5,8 +5,8 @@ use Rattle.replies.specs.declared.Reply.{Reply}
 use Rattle.replies.specs.declared.Reply.TheVariants.{Length}
 use Rattle.replies.specs.Reply.{resulting, Bounded}
 use Rattle.gathering.specs.Gathering.{length_at}
-use Rattle.versions.specs.State.{Made, taken, Programs, emptyState, wayFrom, held}
-use Rattle.versions.specs.Slots.{measuredIn, programsIn, Slotted, Parted}
+use Rattle.versions.specs.State.{Made, taken, Programs, empty_state, way_from, held}
+use Rattle.versions.specs.Slots.{measured_in, programs_in, Slotted, Parted}
 use Rattle.versions.specs.Promise.{onward, NoneFrom}
 
 -- The way up to version v leads to `part` and `state`: the way of the versions before v and any versions ahead goes on from there. The same holds
@@ -14,7 +14,7 @@ use Rattle.versions.specs.Promise.{onward, NoneFrom}
 pub record Led (n : ℕ) (t : List ℕ) (room : ℕ) (ps : Programs) (v : ℕ) (part state : List ℕ) : Type 0 where
   pub parted : Parted part
   pub leads : (k : ℕ) → k ≤ v → NoneFrom k v ps → (ahead : Programs) →
-      wayFrom n t room [] none emptyState (take k ps ++ ahead) ≡ wayFrom n t room (take k ps) (measuredIn part) state ahead
+      way_from n t room [] none empty_state (take k ps ++ ahead) ≡ way_from n t room (take k ps) (measured_in part) state ahead
 
 -- The common part of the programs so far and one more stands behind its length, or the reply stops.
 pub record Joins (m : Made) (r : Reply) (part : List ℕ) : Type 0 where
@@ -28,8 +28,8 @@ pub record Steps (n : ℕ) (t : List ℕ) (ps : Programs) (v : ℕ) (part state 
   pub long : length state₂ ≡ length state
   pub inside : Bounded r (length state)
   pub goes : (old : List ℕ) (ahead : Programs) →
-      wayFrom n t (length state) (take v ps) (measuredIn part) old (get_or ps v none ∷ ahead) ≡
-      onward r (λ l. wayFrom n t (length state) (take (suc v) ps) (measuredIn part₂) (take l state₂) ahead)
+      way_from n t (length state) (take v ps) (measured_in part) old (get_or ps v none ∷ ahead) ≡
+      onward r (λ l. way_from n t (length state) (take (suc v) ps) (measured_in part₂) (take l state₂) ahead)
 
 -- Where the answer is yes, the slots have the programs that the buffer holds, and `part` and `state` are where their way leads; else the buffer
 -- holds none.
@@ -37,6 +37,6 @@ pub record Opens (n : ℕ) (t buffer : List ℕ) (answer : Bool) (slots part sta
   pub slotted : Slotted slots
   pub parted : Parted part
   pub long : length state ≡ length buffer
-  pub holds : answer ≡ true → (held n t buffer ≡ some (programsIn slots)) ×
-      ((used : ℕ) × Led n t (length buffer) (programsIn slots) 16 part (take used state))
+  pub holds : answer ≡ true → (held n t buffer ≡ some (programs_in slots)) ×
+      ((used : ℕ) × Led n t (length buffer) (programs_in slots) 16 part (take used state))
   pub fails : answer ≡ false → held n t buffer ≡ none

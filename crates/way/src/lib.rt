@@ -8,7 +8,7 @@ ghost use Rattle.replies.specs.declared.Reply.TheVariants.{Length};
 ghost use Rattle.replies.specs.Reply.{Bounded, resulting};
 ghost use Rattle.gathering.specs.Gathering.{length_at};
 ghost use Rattle.versions.specs.State.{joined, starts_with, taken, way};
-ghost use Rattle.versions.specs.Slots.{Absent, Parted, Slotted, measuredIn, programsIn};
+ghost use Rattle.versions.specs.Slots.{Absent, Parted, Slotted, measured_in, programs_in};
 ghost use Rattle.way.specs.Promise.{Joins, Led, Opens, Steps};
 
 use replies::Reply;
@@ -72,9 +72,9 @@ pub fn go<'a>(
     ensures long { length state.new ≡ length state.old }
     ensures inside { Bounded result (length state.old) }
     ensures parted { Parted part.new }
-    ensures goes { taken (resulting result state.new) ≡ way n table.now (length state.old) (programsIn slots.now) }
+    ensures goes { taken (resulting result state.new) ≡ way n table.now (length state.old) (programs_in slots.now) }
     ensures led { (used : ℕ) → result ≡ Length used →
-        Led n table.now (length state.old) (programsIn slots.now) 16 part.new (take used state.new) }
+        Led n table.now (length state.old) (programs_in slots.now) 16 part.new (take used state.new) }
 {
     gathering::parts::put_length(0, 0, part);
     gathering::parts::put_length(0, 0, state);
@@ -106,7 +106,7 @@ pub fn step<'a>(
 ) -> Reply
     requires { OpenedFor true n table.now sets.now cells.now × Slotted slots.now ×
         (version < 16) × (1 ≤ length_at (drop (version * 4856) slots.now)) × Parted part.old × (2 ≤ length state.old) × (length state.old ≤ 16384) }
-    ensures { Steps n table.now (programsIn slots.now) version part.old state.old result part.new state.new }
+    ensures { Steps n table.now (programs_in slots.now) version part.old state.old result part.new state.new }
 {
     let start = version * versions::slots::SLOT + 2;
     let length = versions::slots::length_in(slots, version);
@@ -128,7 +128,7 @@ fn join<'a>(
     part: &mut [u8],
 ) -> Reply
     requires { OpenedFor true n table.now sets.now cells.now × (1 ≤ length program.now) × (length program.now ≤ 4854) × Parted part.old }
-    ensures { Joins (joined n table.now (measuredIn part.old) program.now) result part.new }
+    ensures { Joins (joined n table.now (measured_in part.old) program.now) result part.new }
 {
     let length = gathering::parts::length_at(part, 0);
     if length == 0 {

@@ -6,7 +6,7 @@ use native.Mathlib.Omega.{arith}
 use borrow.Author.Rules.{rules}
 use Rattle.classes.proofs.Joining.{
   Joining,
-  rootCount,
+  root_count,
   join-start,
   join-done,
   left-small,
@@ -26,7 +26,7 @@ invariant-loop nodes second class₀ start₀ end₀ pool₀ waiting₀ used rea
 
 abbrev decreases-loop : tie.decreases-loop
 decreases-loop nodes second class₀ start₀ end₀ pool₀ waiting₀ used reach₀ class start end pool waiting reach =
-    4098 * rootCount nodes class + reach.count
+    4098 * root_count nodes class + reach.count
 
 separate-requires : tie.Need-separate-requires invariant-loop decreases-loop
 separate-requires c κs = search rules

@@ -10,7 +10,7 @@ use lib.ListN.{length}
 use Rattle.graphs.specs.Graph.{Graph}
 use Rattle.graphs.specs.Rows.{Row}
 use Rattle.graphs.specs.Difference.{Link, StrictOrder}
-use Rattle.graphs.specs.OfRows.{same_pair, sameEither}
+use Rattle.graphs.specs.OfRows.{same_pair, same_either}
 use Rattle.graphs.proofs.Lists.{tells-eqb}
 use Rattle.lattice.specs.Label.{Label}
 use Rattle.lattice.specs.Labels.{OfAnySize}
@@ -18,20 +18,20 @@ use Rattle.lattice.proofs.AnySize.{combination-greatest}
 use Rattle.acceptance.specs.declared.Opened.TheVariants.{Accepted}
 use Rattle.acceptance.specs.Reply.{opened}
 use Rattle.acceptance.proofs.Acceptance.{opened-accepted}
-use Rattle.record.specs.Read.{reading, accepted, graphOfRows}
+use Rattle.record.specs.Read.{reading, accepted, graph_of_rows}
 use Rattle.record.proofs.Theorems.{accepted-of-any-size, accepted-fits}
 use Rattle.generalize.proofs.Sides.{tells-pair}
 use Rattle.replies.specs.declared.Reply.{Reply}
 use Rattle.replies.specs.declared.Reply.TheVariants as replies
 use Rattle.replies.specs.Reply.{Result}
-use Rattle.subsume.specs.Promise.{rowsBelow}
+use Rattle.subsume.specs.Promise.{rows_below}
 use Rattle.orders.specs.Ordering.{compared, ordered}
-use Rattle.engine.specs.Rewriting.{rewrittenRows}
+use Rattle.engine.specs.Rewriting.{rewritten_rows}
 use Rattle.engine.specs.Generalizing.{generalized}
-use Rattle.engine.specs.Unifying.{unifiedRows}
-use Rattle.difference.specs.Difference.{differedRows}
+use Rattle.engine.specs.Unifying.{unified_rows}
+use Rattle.difference.specs.Difference.{differed_rows}
 use Rattle.calls.specs.Calls.{ordering, generalizing, unifying}
-use Rattle.demands.specs.Demand.{Given, Large, recordOf, writing, common, remainder}
+use Rattle.demands.specs.Demand.{Given, Large, record_of, writing, common, remainder}
 use Rattle.demands.specs.Wanted.{SomeUnwanted}
 use Rattle.demands.specs.Due.{RowsBelow, RoomDue, CompareDue, CommonDue, CombinationOf, CombineDue, DifferDue}
 use Rattle.demands.specs.Due as due
@@ -48,25 +48,25 @@ use Rattle.demands.proofs.Demanded.DueWriting as write
 -- Rewriting: an accepted record is not too large.
 module _ (n : ℕ) (t bytes : List ℕ) (rows : List (Row Label)) (opens : opened n t ≡ Accepted) (reads : reading n bytes ≡ accepted rows)
     (out : List ℕ) where
-  small : Large (graphOfRows rows) → ⊥
+  small : Large (graph_of_rows rows) → ⊥
   small large =
-      let none = (record-none n t opens eqb tells-eqb (graphOfRows rows) (accepted-of-any-size n bytes rows reads t)).1 large in
+      let none = (record-none n t opens eqb tells-eqb (graph_of_rows rows) (accepted-of-any-size n bytes rows reads t)).1 large in
       let (form, e) = accepted-fits n bytes rows reads in
       let z : ◌≡◌ {A = ℕ} 0 1 = cc in omega arith
 
-  rows-size : OfAnySize n t (graphOfRows rows)
+  rows-size : OfAnySize n t (graph_of_rows rows)
   rows-size = accepted-of-any-size n bytes rows reads t
 
-  only-room : {r : Reply} → WriteDue n t opens eqb tells-eqb (graphOfRows rows) rows-size out r → RoomDue n t (graphOfRows rows) (length out) r
+  only-room : {r : Reply} → WriteDue n t opens eqb tells-eqb (graph_of_rows rows) rows-size out r → RoomDue n t (graph_of_rows rows) (length out) r
   only-room (write.too_large large) = absurd (small large)
   only-room (write.written d) = d
 
-  pub rewritten-exact : (r : Reply) → ((rewrittenRows out rows).reply ≡ r) ↔ RoomDue n t (graphOfRows rows) (length out) r
+  pub rewritten-exact : (r : Reply) → ((rewritten_rows out rows).reply ≡ r) ↔ RoomDue n t (graph_of_rows rows) (length out) r
   rewritten-exact r =
-      let is : rewrittenRows out rows ≡ writing (recordOf eqb (graphOfRows rows)) out = result-record eqb (graphOfRows rows) out in (
-        λ e. subst (RoomDue n t (graphOfRows rows) (length out)) (ap (λ (x : Result). x.reply) (sym is) ∙ e)
-            (only-room (write-due n t opens eqb tells-eqb (graphOfRows rows) rows-size out)),
-        λ d. ap (λ (x : Result). x.reply) is ∙ room-replies n t opens eqb tells-eqb (graphOfRows rows) rows-size out d,
+      let is : rewritten_rows out rows ≡ writing (record_of eqb (graph_of_rows rows)) out = result-record eqb (graph_of_rows rows) out in (
+        λ e. subst (RoomDue n t (graph_of_rows rows) (length out)) (ap (λ (x : Result). x.reply) (sym is) ∙ e)
+            (only-room (write-due n t opens eqb tells-eqb (graph_of_rows rows) rows-size out)),
+        λ d. ap (λ (x : Result). x.reply) is ∙ room-replies n t opens eqb tells-eqb (graph_of_rows rows) rows-size out d,
       )
 
 module _ (n : ℕ) (t a b : List ℕ) where
@@ -91,7 +91,7 @@ module _ (n : ℕ) (t a b : List ℕ) where
     pub compare_exact : (r : Reply) → (ordered n t s g ≡ r) ↔ CompareDue n t s g r
     unfolding ordered
     compare_exact r = (
-      λ e. subst (CompareDue n t s g) e (compare-due (rowsBelow n t s g) (rowsBelow n t g s) ordering-is),
+      λ e. subst (CompareDue n t s g) e (compare-due (rows_below n t s g) (rows_below n t g s) ordering-is),
       λ d. sym ordering-is ∙ compare-replies d,
     )
 
@@ -100,7 +100,7 @@ module _ (n : ℕ) (t a b : List ℕ) where
     common-size : OfAnySize n t (common n t g h)
     common-size = (Common.common-part-exists n t a b g h given).of-any-size
 
-    generalized-is : generalized n t out g h ≡ writing (recordOf same_pair (common n t g h)) out
+    generalized-is : generalized n t out g h ≡ writing (record_of same_pair (common n t g h)) out
     unfolding generalizing
     generalized-is =
         let plain : generalizing n t a b out ≡ generalized n t out g h = rw (given.opens, given.first, given.second) in
@@ -117,26 +117,26 @@ module _ (n : ℕ) (t a b : List ℕ) where
         from (write.too_large large) = due.too_large large
         from (write.written d) = due.written d
 
-        back : {r : Reply} → CommonDue n t (length out) g h r → (writing (recordOf same_pair (common n t g h)) out).reply ≡ r
+        back : {r : Reply} → CommonDue n t (length out) g h r → (writing (record_of same_pair (common n t g h)) out).reply ≡ r
         back (due.too_large large) = large-replies n t given.opens same_pair tells-pair (common n t g h) common-size out large
         back (due.written d) = room-replies n t given.opens same_pair tells-pair (common n t g h) common-size out d
 
   -- Combination.
   module _ (g h : List (Row Label)) (given : Given n t a b g h) (out : List ℕ) where
-    unified-is : unifying n t a b out ≡ unifiedRows n t out g h
+    unified-is : unifying n t a b out ≡ unified_rows n t out g h
     unfolding unifying
     unified-is = rw (given.opens, given.first, given.second)
 
     -- The call writes the combination.
     module _ (u : Graph Label (ℕ ⊎ ℕ)) (combines : CombinationOf n t g h u) where
-      combined-is : unifying n t a b out ≡ writing (recordOf sameEither u) out
+      combined-is : unifying n t a b out ≡ writing (record_of same_either u) out
       combined-is =
-          Combined.greatest-result n t a b g h given out sameEither tells-either u
-          (combination-greatest n t (opened-accepted n t (opened n t) refl given.opens) (graphOfRows g) (graphOfRows h)
+          Combined.greatest-result n t a b g h given out same_either tells-either u
+          (combination-greatest n t (opened-accepted n t (opened n t) refl given.opens) (graph_of_rows g) (graph_of_rows h)
           (accepted-of-any-size n a g given.first t) (accepted-of-any-size n b h given.second t) u combines.of-any-size combines.classes) ∙
-          result-record sameEither u out
+          result-record same_either u out
 
-      combined-due : {r : Reply} → WriteDue n t given.opens sameEither tells-either u combines.of-any-size out r → CombineDue n t (length out) g h r
+      combined-due : {r : Reply} → WriteDue n t given.opens same_either tells-either u combines.of-any-size out r → CombineDue n t (length out) g h r
       combined-due (write.too_large large) = due.too_large u combines large
       combined-due (write.written d) = due.written u combines d
 
@@ -153,19 +153,19 @@ module _ (n : ℕ) (t a b : List ℕ) where
         go (Combined.written u is best e) =
             let combines : CombinationOf n t g h u = record { of-any-size = best.of-any-size; classes = is } in
             subst (λ (x : Result). CombineDue n t (length out) g h x.reply) (sym (combined-is u combines))
-            (combined-due u combines (write-due n t given.opens sameEither tells-either u combines.of-any-size out))
+            (combined-due u combines (write-due n t given.opens same_either tells-either u combines.of-any-size out))
 
     combine-replies : {r : Reply} → CombineDue n t (length out) g h r → (unifying n t a b out).reply ≡ r
     combine-replies (due.cycle c) = (Combined.cycle-exact n t a b g h given out).1 c
     combine-replies (due.clash none c) = (Combined.clash-exact n t a b g h given out).1 (none, c)
     combine-replies (due.too_large u combines large) =
         ap (λ (x : Result). x.reply) (combined-is u combines) ∙
-        large-replies n t given.opens sameEither tells-either u combines.of-any-size out large
+        large-replies n t given.opens same_either tells-either u combines.of-any-size out large
     combine-replies (due.written u combines d) =
         ap (λ (x : Result). x.reply) (combined-is u combines) ∙
-        room-replies n t given.opens sameEither tells-either u combines.of-any-size out d
+        room-replies n t given.opens same_either tells-either u combines.of-any-size out d
 
-    pub combine-exact : (r : Reply) → ((unifiedRows n t out g h).reply ≡ r) ↔ CombineDue n t (length out) g h r
+    pub combine-exact : (r : Reply) → ((unified_rows n t out g h).reply ≡ r) ↔ CombineDue n t (length out) g h r
     combine-exact r = (
       λ e. subst (CombineDue n t (length out) g h) (ap (λ (x : Result). x.reply) unified-is ∙ e) combine-due,
       λ d. ap (λ (x : Result). x.reply) (sym unified-is) ∙ combine-replies d,
@@ -188,21 +188,21 @@ module _ (n : ℕ) (t a b : List ℕ) where
   -- Difference.
   module _ {earlier : Link ℕ → Link ℕ → Bool} (strict : StrictOrder earlier) (g s : List (Row Label)) (given : Given n t a b g s) (out : List ℕ) where
     abbrev parted : Result
-    parted = differedRows earlier n t out g s
+    parted = differed_rows earlier n t out g s
 
     parts : Differed.Parts earlier n t out g s parted
     parts = record { is = refl }
 
     -- Where neither 12 nor 13 is due, the difference is written.
-    module _ (below : RowsBelow n t s g) (all : SomeUnwanted n t (graphOfRows s) (graphOfRows g) → ⊥) where
+    module _ (below : RowsBelow n t s g) (all : SomeUnwanted n t (graph_of_rows s) (graph_of_rows g) → ⊥) where
       remainder-size : OfAnySize n t (remainder earlier n t g s)
-      remainder-size = (Differed.remainder-restores n t a b g s given strict below (Differed.all_wanted n t a b g s given below all)).of-any-size
+      remainder-size = (Differed.remainder-restores n t a b g s given strict below (Differed.all_wanted_lem n t a b g s given below all)).of-any-size
 
       remainder-small : Large (remainder earlier n t g s) → ⊥
-      remainder-small = Differed.remainder-small n t a b g s given strict below (Differed.all_wanted n t a b g s given below all)
+      remainder-small = Differed.remainder-small n t a b g s given strict below (Differed.all_wanted_lem n t a b g s given below all)
 
-      parted-is : parted ≡ writing (recordOf eqb (remainder earlier n t g s)) out
-      parted-is = Differed.remainder-written n t a b g s given strict parts below (Differed.all_wanted n t a b g s given below all)
+      parted-is : parted ≡ writing (record_of eqb (remainder earlier n t g s)) out
+      parted-is = Differed.remainder-written n t a b g s given strict parts below (Differed.all_wanted_lem n t a b g s given below all)
 
       parted-due : {r : Reply} → WriteDue n t given.opens eqb tells-eqb (remainder earlier n t g s) remainder-size out r →
           DifferDue n t earlier (length out) g s r
@@ -227,7 +227,7 @@ module _ (n : ℕ) (t a b : List ℕ) where
             let (under, some) = (Differed.unwanted-reply-exact n t a b g s given strict parts).0 (ap (λ (x : Result). x.reply) e) in
             subst (λ (x : Result). DifferDue n t earlier (length out) g s x.reply) (sym e) (due.not-wanted under some)
         go (Differed.differs below wants) =
-            let all : SomeUnwanted n t (graphOfRows s) (graphOfRows g) → ⊥ = λ some.
+            let all : SomeUnwanted n t (graph_of_rows s) (graph_of_rows g) → ⊥ = λ some.
             other ((Differed.unwanted-reply-exact n t a b g s given strict parts).1 (below, some))
             (Differed.remainder-writes n t a b g s given strict parts below wants).replies in
             subst (λ (x : Result). DifferDue n t earlier (length out) g s x.reply) (sym (parted-is below all))
@@ -240,5 +240,5 @@ module _ (n : ℕ) (t a b : List ℕ) where
         ap (λ (x : Result). x.reply) (parted-is below all) ∙
         room-replies n t given.opens eqb tells-eqb (remainder earlier n t g s) (remainder-size below all) out d
 
-    pub differ-exact : (r : Reply) → ((differedRows earlier n t out g s).reply ≡ r) ↔ DifferDue n t earlier (length out) g s r
+    pub differ-exact : (r : Reply) → ((differed_rows earlier n t out g s).reply ≡ r) ↔ DifferDue n t earlier (length out) g s r
     differ-exact r = (λ e. subst (DifferDue n t earlier (length out) g s) e differ-due, differ-replies)

@@ -13,19 +13,19 @@ use Rattle.acceptance.specs.declared.Opened.TheVariants.{Accepted, Refused}
 use Rattle.acceptance.specs.Reply.{opened}
 use Rattle.record.specs.declared.GraphFault.{GraphFault}
 use Rattle.record.specs.declared.GraphFault.TheVariants.{Inappropriate}
-use Rattle.record.specs.Read.{Reading, refused, accepted, reading, graphOfRows}
-use Rattle.record.specs.Appropriate.{listAccepted, appropriate, readingAppropriate, Appropriate}
+use Rattle.record.specs.Read.{Reading, refused, accepted, reading, graph_of_rows}
+use Rattle.record.specs.Appropriate.{list_accepted, appropriate, reading_appropriate, Appropriate}
 use Rattle.record.proofs.Accepted.{accepted-rules}
 use Rattle.record.proofs.Allowed.{list-accepted, list-long, list-entry, refused-appropriate, judged-appropriate}
 use Rattle.record.proofs.Obeying.{appropriate-exact}
-use Rattle.link_orders.specs.LinkOrders.{isReadingOrder, EachOnce}
+use Rattle.link_orders.specs.LinkOrders.{is_reading_order, EachOnce}
 use Rattle.link_orders.proofs.ReadingOrder.{reading-order}
 use Rattle.replies.specs.declared.Side.TheVariants.{First, Second}
 use Rattle.replies.specs.declared.Reply.{Reply}
 use Rattle.replies.specs.declared.Reply.TheVariants.{Length, Table, Graph as OfGraph, TypeList, ReadingOrder}
 use Rattle.replies.specs.Reply.{Result, refusing}
-use Rattle.pairs.specs.Pair.{readBoth}
-use Rattle.calls.specs.Calls.{checked, checkedList, checking}
+use Rattle.pairs.specs.Pair.{read_both}
+use Rattle.calls.specs.Calls.{checked, checked_list, checking}
 use Rattle.demands.specs.Demand.{Given}
 use Rattle.demands.specs.Due.{CheckDue, LoneDue, PairDue, TypesListed, GraphDue, LoneListedDue, PairListedDue, ByListDue}
 use Rattle.demands.specs.Due as due
@@ -44,84 +44,84 @@ check-exact n t r = (λ e. subst (CheckDue n t) e (go (opened n t) refl), back)
     back (due.passes e) = ap (λ (o : Opened). checked (λ r. r) o (Length 0)) e
 
 -- A call's result X has a reply, and `refuse` makes a result from a refusal.
-module _ {X : Type 0} (replyIn : X → Reply) (refuse : Reply → X) (keeps : (r : Reply) → replyIn (refuse r) ≡ r) (n : ℕ) (t : List ℕ) where
+module _ {X : Type 0} (reply_in : X → Reply) (refuse : Reply → X) (keeps : (r : Reply) → reply_in (refuse r) ≡ r) (n : ℕ) (t : List ℕ) where
   -- A call with one record: "A lone graph counts as the first." `judge` goes on with what reading the record answers.
   module _ (bytes : List ℕ) (judge : Reading → X) (refuses : (fault : GraphFault) → judge (refused fault) ≡ refuse (OfGraph fault First))
       (Then : List (Row Label) → Reply → Type 0)
       (exact : (rows : List (Row Label)) → opened n t ≡ Accepted → reading n bytes ≡ accepted rows → (r : Reply) →
-      (replyIn (judge (accepted rows)) ≡ r) ↔ Then rows r) where
+      (reply_in (judge (accepted rows)) ≡ r) ↔ Then rows r) where
     abbrev lone : Opened → Reading → X
     lone o x = checked refuse o (judge x)
 
-    first-told : (fault : GraphFault) → replyIn (judge (refused fault)) ≡ OfGraph fault First
-    first-told fault = ap replyIn (refuses fault) ∙ keeps (OfGraph fault First)
+    first-told : (fault : GraphFault) → reply_in (judge (refused fault)) ≡ OfGraph fault First
+    first-told fault = ap reply_in (refuses fault) ∙ keeps (OfGraph fault First)
 
-    lone-due : (o : Opened) (x : Reading) → opened n t ≡ o → reading n bytes ≡ x → LoneDue n t bytes Then (replyIn (lone o x))
+    lone-due : (o : Opened) (x : Reading) → opened n t ≡ o → reading n bytes ≡ x → LoneDue n t bytes Then (reply_in (lone o x))
     lone-due (Refused fault) x i j = subst (LoneDue n t bytes Then) (sym (keeps (Table fault))) (due.table fault i)
     lone-due Accepted (refused fault) i j = subst (LoneDue n t bytes Then) (sym (first-told fault)) (due.graph fault i j)
-    lone-due Accepted (accepted rows) i j = due.one rows i j ((exact rows i j (replyIn (judge (accepted rows)))).0 refl)
+    lone-due Accepted (accepted rows) i j = due.one rows i j ((exact rows i j (reply_in (judge (accepted rows)))).0 refl)
 
-    lone-replies : {r : Reply} → LoneDue n t bytes Then r → replyIn (lone (opened n t) (reading n bytes)) ≡ r
-    lone-replies (due.table fault i) = ap (λ (o : Opened). replyIn (lone o (reading n bytes))) i ∙ keeps (Table fault)
-    lone-replies (due.graph fault i j) = ap₂ (λ (o : Opened) (x : Reading). replyIn (lone o x)) i j ∙ first-told fault
+    lone-replies : {r : Reply} → LoneDue n t bytes Then r → reply_in (lone (opened n t) (reading n bytes)) ≡ r
+    lone-replies (due.table fault i) = ap (λ (o : Opened). reply_in (lone o (reading n bytes))) i ∙ keeps (Table fault)
+    lone-replies (due.graph fault i j) = ap₂ (λ (o : Opened) (x : Reading). reply_in (lone o x)) i j ∙ first-told fault
     lone-replies {r} (due.one rows i j then) =
-        ap₂ (λ (o : Opened) (x : Reading). replyIn (lone o x)) i j ∙ (exact rows i j r).1 then
+        ap₂ (λ (o : Opened) (x : Reading). reply_in (lone o x)) i j ∙ (exact rows i j r).1 then
 
-    pub lone-exact : (r : Reply) → (replyIn (checked refuse (opened n t) (judge (reading n bytes))) ≡ r) ↔ LoneDue n t bytes Then r
+    pub lone-exact : (r : Reply) → (reply_in (checked refuse (opened n t) (judge (reading n bytes))) ≡ r) ↔ LoneDue n t bytes Then r
     lone-exact r = (λ e. subst (LoneDue n t bytes Then) e (lone-due (opened n t) (reading n bytes) refl refl), lone-replies)
 
   -- A call with two records that goes on with `next`.
   module _ (a b : List ℕ) (next : List (Row Label) → List (Row Label) → X) (Then : List (Row Label) → List (Row Label) → Reply → Type 0)
-      (exact : (s g : List (Row Label)) → Given n t a b s g → (r : Reply) → (replyIn (next s g) ≡ r) ↔ Then s g r) where
+      (exact : (s g : List (Row Label)) → Given n t a b s g → (r : Reply) → (reply_in (next s g) ≡ r) ↔ Then s g r) where
     abbrev paired : Opened → Reading → Reading → X
-    paired o x y = checked refuse o (readBoth refuse x y next)
+    paired o x y = checked refuse o (read_both refuse x y next)
 
-    pair-due : (o : Opened) (x y : Reading) → opened n t ≡ o → reading n a ≡ x → reading n b ≡ y → PairDue n t a b Then (replyIn (paired o x y))
+    pair-due : (o : Opened) (x y : Reading) → opened n t ≡ o → reading n a ≡ x → reading n b ≡ y → PairDue n t a b Then (reply_in (paired o x y))
     pair-due (Refused fault) x y i j k = subst (PairDue n t a b Then) (sym (keeps (Table fault))) (due.table fault i)
     pair-due Accepted (refused fault) y i j k = subst (PairDue n t a b Then) (sym (keeps (OfGraph fault First))) (due.first fault i j)
     pair-due Accepted (accepted s) (refused fault) i j k =
         subst (PairDue n t a b Then) (sym (keeps (OfGraph fault Second))) (due.second s fault i j k)
     pair-due Accepted (accepted s) (accepted g) i j k =
         let given : Given n t a b s g = record { opens = i; first = j; second = k } in
-        due.both s g given ((exact s g given (replyIn (next s g))).0 refl)
+        due.both s g given ((exact s g given (reply_in (next s g))).0 refl)
 
-    pair-replies : {r : Reply} → PairDue n t a b Then r → replyIn (paired (opened n t) (reading n a) (reading n b)) ≡ r
-    pair-replies (due.table fault i) = ap (λ (o : Opened). replyIn (paired o (reading n a) (reading n b))) i ∙ keeps (Table fault)
+    pair-replies : {r : Reply} → PairDue n t a b Then r → reply_in (paired (opened n t) (reading n a) (reading n b)) ≡ r
+    pair-replies (due.table fault i) = ap (λ (o : Opened). reply_in (paired o (reading n a) (reading n b))) i ∙ keeps (Table fault)
     pair-replies (due.first fault i j) =
-        ap₂ (λ (o : Opened) (x : Reading). replyIn (paired o x (reading n b))) i j ∙ keeps (OfGraph fault First)
+        ap₂ (λ (o : Opened) (x : Reading). reply_in (paired o x (reading n b))) i j ∙ keeps (OfGraph fault First)
     pair-replies (due.second s fault i j k) =
-        ap₂ (λ (o : Opened) (x : Reading). replyIn (paired o x (reading n b))) i j ∙
-        ap (λ (y : Reading). replyIn (paired Accepted (accepted s) y)) k ∙ keeps (OfGraph fault Second)
+        ap₂ (λ (o : Opened) (x : Reading). reply_in (paired o x (reading n b))) i j ∙
+        ap (λ (y : Reading). reply_in (paired Accepted (accepted s) y)) k ∙ keeps (OfGraph fault Second)
     pair-replies {r} (due.both s g given then) =
-        ap₂ (λ (o : Opened) (x : Reading). replyIn (paired o x (reading n b))) given.opens given.first ∙
-        ap (λ (y : Reading). replyIn (paired Accepted (accepted s) y)) given.second ∙ (exact s g given r).1 then
+        ap₂ (λ (o : Opened) (x : Reading). reply_in (paired o x (reading n b))) given.opens given.first ∙
+        ap (λ (y : Reading). reply_in (paired Accepted (accepted s) y)) given.second ∙ (exact s g given r).1 then
 
     pub pair-exact : (r : Reply) →
-        (replyIn (checked refuse (opened n t) (readBoth refuse (reading n a) (reading n b) next)) ≡ r) ↔ PairDue n t a b Then r
+        (reply_in (checked refuse (opened n t) (read_both refuse (reading n a) (reading n b) next)) ≡ r) ↔ PairDue n t a b Then r
     pair-exact r = (λ e. subst (PairDue n t a b Then) e (pair-due (opened n t) (reading n a) (reading n b) refl refl refl), pair-replies)
 
     -- The same over an accepted table, once it is checked.
     pub over-table-exact : opened n t ≡ Accepted → (r : Reply) →
-        (replyIn (readBoth refuse (reading n a) (reading n b) next) ≡ r) ↔ PairDue n t a b Then r
+        (reply_in (read_both refuse (reading n a) (reading n b) next) ≡ r) ↔ PairDue n t a b Then r
     over-table-exact opens r =
-        subst (λ (x : X). (replyIn x ≡ r) ↔ PairDue n t a b Then r)
+        subst (λ (x : X). (reply_in x ≡ r) ↔ PairDue n t a b Then r)
         (ap (λ (o : Opened). paired o (reading n a) (reading n b)) opens) (pair-exact r)
 
 -- Reading a record beside a list of types for features.
 module _ (n : ℕ) (t list bytes : List ℕ) where
   pub data BesideDue : Reading → Type 0 where
     not-read : (fault : GraphFault) → GraphDue n t list bytes fault → BesideDue (refused fault)
-    obeys : (rows : List (Row Label)) → reading n bytes ≡ accepted rows → Appropriate t list (graphOfRows rows) → BesideDue (accepted rows)
+    obeys : (rows : List (Row Label)) → reading n bytes ≡ accepted rows → Appropriate t list (graph_of_rows rows) → BesideDue (accepted rows)
 
   judged : (rows : List (Row Label)) → reading n bytes ≡ accepted rows → (b : Bool) → appropriate t list rows ≡ b →
-      readingAppropriate n t list bytes ≡ cond b (accepted rows) (refused Inappropriate)
+      reading_appropriate n t list bytes ≡ cond b (accepted rows) (refused Inappropriate)
   judged rows reads b e =
       judged-appropriate n t list bytes rows reads ∙ ap (λ (c : Bool). cond c (accepted rows) (refused Inappropriate)) e
 
-  obeying : (rows : List (Row Label)) → reading n bytes ≡ accepted rows → (appropriate t list rows ≡ true) ↔ Appropriate t list (graphOfRows rows)
+  obeying : (rows : List (Row Label)) → reading n bytes ≡ accepted rows → (appropriate t list rows ≡ true) ↔ Appropriate t list (graph_of_rows rows)
   obeying rows reads = appropriate-exact n t list rows (accepted-rules n bytes rows reads)
 
-  pub beside-due : BesideDue (readingAppropriate n t list bytes)
+  pub beside-due : BesideDue (reading_appropriate n t list bytes)
   beside-due = go (reading n bytes) refl
     where
       test : (rows : List (Row Label)) → reading n bytes ≡ accepted rows → (b : Bool) → appropriate t list rows ≡ b →
@@ -130,30 +130,30 @@ module _ (n : ℕ) (t list bytes : List ℕ) where
       test rows reads false e =
           not-read Inappropriate (due.forbidden (rows, reads, λ good. true-false ((obeying rows reads).1 good) e))
 
-      go : (x : Reading) → reading n bytes ≡ x → BesideDue (readingAppropriate n t list bytes)
+      go : (x : Reading) → reading n bytes ≡ x → BesideDue (reading_appropriate n t list bytes)
       go (refused fault) e = subst BesideDue (sym (refused-appropriate n t list bytes fault e)) (not-read fault (due.unread fault e))
       go (accepted rows) e =
           subst BesideDue (sym (judged rows e (appropriate t list rows) refl)) (test rows e (appropriate t list rows) refl)
 
-  pub beside-refused : (fault : GraphFault) → GraphDue n t list bytes fault → readingAppropriate n t list bytes ≡ refused fault
+  pub beside-refused : (fault : GraphFault) → GraphDue n t list bytes fault → reading_appropriate n t list bytes ≡ refused fault
   beside-refused _ (due.unread fault e) = refused-appropriate n t list bytes fault e
   beside-refused _ (due.forbidden (rows, reads, never)) =
       judged rows reads false (not-true-false (appropriate t list rows) (λ e. never ((obeying rows reads).0 e)))
 
-  pub beside-accepted : (rows : List (Row Label)) → reading n bytes ≡ accepted rows → Appropriate t list (graphOfRows rows) →
-      readingAppropriate n t list bytes ≡ accepted rows
+  pub beside-accepted : (rows : List (Row Label)) → reading n bytes ≡ accepted rows → Appropriate t list (graph_of_rows rows) →
+      reading_appropriate n t list bytes ≡ accepted rows
   beside-accepted rows reads good = judged rows reads true ((obeying rows reads).1 good)
 
 -- The list of types for features.
 module _ (n : ℕ) (t list : List ℕ) where
-  types-listed : listAccepted n list ≡ true → TypesListed n t list
+  types-listed : list_accepted n list ≡ true → TypesListed n t list
   types-listed e = record { long = list-long n list e; types = list-entry n list e }
 
-  listed-types : TypesListed n t list → listAccepted n list ≡ true
+  listed-types : TypesListed n t list → list_accepted n list ≡ true
   listed-types types = list-accepted n list types.long types.types
 
-  not_listed : (TypesListed n t list → ⊥) → listAccepted n list ≡ false
-  not_listed none = not-true-false (listAccepted n list) (λ e. none (types-listed e))
+  not_listed : (TypesListed n t list → ⊥) → list_accepted n list ≡ false
+  not_listed none = not-true-false (list_accepted n list) (λ e. none (types-listed e))
 
   module _ (out : List ℕ) where
     -- A call with a list and one record.
@@ -164,7 +164,7 @@ module _ (n : ℕ) (t list : List ℕ) where
       abbrev alone : Opened → Bool → Reading → Result
       alone o b x = checked (λ r. refusing r out) o (cond b (judge x) (refusing TypeList out))
 
-      alone-due : (o : Opened) (b : Bool) (x : Reading) → opened n t ≡ o → listAccepted n list ≡ b → BesideDue n t list bytes x →
+      alone-due : (o : Opened) (b : Bool) (x : Reading) → opened n t ≡ o → list_accepted n list ≡ b → BesideDue n t list bytes x →
           LoneListedDue n t list bytes Then (alone o b x).reply
       alone-due (Refused fault) b x i l j = due.table fault i
       alone-due Accepted false x i l j = due.types i (λ types. true-false (listed-types types) l)
@@ -174,14 +174,14 @@ module _ (n : ℕ) (t list : List ℕ) where
       alone-due Accepted true _ i l (obeys rows reads good) =
           due.one rows (record { opens = i; listed = types-listed l }) reads good ((exact rows i reads (judge (accepted rows)).reply).0 refl)
 
-      alone-is : {b : Bool} {x : Reading} → opened n t ≡ Accepted → listAccepted n list ≡ b → readingAppropriate n t list bytes ≡ x →
-          alone (opened n t) (listAccepted n list) (readingAppropriate n t list bytes) ≡ cond b (judge x) (refusing TypeList out)
+      alone-is : {b : Bool} {x : Reading} → opened n t ≡ Accepted → list_accepted n list ≡ b → reading_appropriate n t list bytes ≡ x →
+          alone (opened n t) (list_accepted n list) (reading_appropriate n t list bytes) ≡ cond b (judge x) (refusing TypeList out)
       alone-is i l j =
-          ap (λ (o : Opened). alone o (listAccepted n list) (readingAppropriate n t list bytes)) i ∙ ap₂ (λ (b : Bool) (x : Reading). alone Accepted b x) l j
+          ap (λ (o : Opened). alone o (list_accepted n list) (reading_appropriate n t list bytes)) i ∙ ap₂ (λ (b : Bool) (x : Reading). alone Accepted b x) l j
 
       alone-replies : {r : Reply} → LoneListedDue n t list bytes Then r →
-          (alone (opened n t) (listAccepted n list) (readingAppropriate n t list bytes)).reply ≡ r
-      alone-replies (due.table fault i) = ap (λ (o : Opened). (alone o (listAccepted n list) (readingAppropriate n t list bytes)).reply) i
+          (alone (opened n t) (list_accepted n list) (reading_appropriate n t list bytes)).reply ≡ r
+      alone-replies (due.table fault i) = ap (λ (o : Opened). (alone o (list_accepted n list) (reading_appropriate n t list bytes)).reply) i
       alone-replies (due.types i none) = ap (λ (y : Result). y.reply) (alone-is i (not_listed none) refl)
       alone-replies (due.graph fault listing d) =
           ap (λ (y : Result). y.reply)
@@ -191,10 +191,10 @@ module _ (n : ℕ) (t list : List ℕ) where
           (exact rows listing.opens reads r).1 then
 
       pub lone-listed-exact : (r : Reply) →
-          ((checkedList n t (listAccepted n list) TypeList out (judge (readingAppropriate n t list bytes))).reply ≡ r) ↔ LoneListedDue n t list bytes Then r
+          ((checked_list n t (list_accepted n list) TypeList out (judge (reading_appropriate n t list bytes))).reply ≡ r) ↔ LoneListedDue n t list bytes Then r
       lone-listed-exact r = (
         λ e. subst (LoneListedDue n t list bytes Then) e
-            (alone-due (opened n t) (listAccepted n list) (readingAppropriate n t list bytes) refl refl (beside-due n t list bytes)),
+            (alone-due (opened n t) (list_accepted n list) (reading_appropriate n t list bytes) refl refl (beside-due n t list bytes)),
         alone-replies,
       )
 
@@ -202,9 +202,9 @@ module _ (n : ℕ) (t list : List ℕ) where
     module _ (a b : List ℕ) (next : List (Row Label) → List (Row Label) → Result) (Then : List (Row Label) → List (Row Label) → Reply → Type 0)
         (exact : (s g : List (Row Label)) → Given n t a b s g → (r : Reply) → ((next s g).reply ≡ r) ↔ Then s g r) where
       abbrev together : Opened → Bool → Reading → Reading → Result
-      together o l x y = checked (λ r. refusing r out) o (cond l (readBoth (λ r. refusing r out) x y next) (refusing TypeList out))
+      together o l x y = checked (λ r. refusing r out) o (cond l (read_both (λ r. refusing r out) x y next) (refusing TypeList out))
 
-      together-due : (o : Opened) (l : Bool) (x y : Reading) → opened n t ≡ o → listAccepted n list ≡ l → BesideDue n t list a x →
+      together-due : (o : Opened) (l : Bool) (x y : Reading) → opened n t ≡ o → list_accepted n list ≡ l → BesideDue n t list a x →
           BesideDue n t list b y → PairListedDue n t list a b Then (together o l x y).reply
       together-due (Refused fault) l x y i e j k = due.table fault i
       together-due Accepted false x y i e j k = due.types i (λ types. true-false (listed-types types) e)
@@ -215,18 +215,18 @@ module _ (n : ℕ) (t list : List ℕ) where
           let given : Given n t a b s g = record { opens = i; first = reads; second = reads' } in
           due.both s g (types-listed e) given good good' ((exact s g given (next s g).reply).0 refl)
 
-      together-is : {l : Bool} {x y : Reading} → opened n t ≡ Accepted → listAccepted n list ≡ l → readingAppropriate n t list a ≡ x →
-          readingAppropriate n t list b ≡ y →
-          together (opened n t) (listAccepted n list) (readingAppropriate n t list a) (readingAppropriate n t list b) ≡
-          cond l (readBoth (λ r. refusing r out) x y next) (refusing TypeList out)
+      together-is : {l : Bool} {x y : Reading} → opened n t ≡ Accepted → list_accepted n list ≡ l → reading_appropriate n t list a ≡ x →
+          reading_appropriate n t list b ≡ y →
+          together (opened n t) (list_accepted n list) (reading_appropriate n t list a) (reading_appropriate n t list b) ≡
+          cond l (read_both (λ r. refusing r out) x y next) (refusing TypeList out)
       together-is {l} i e j k =
-          ap₂ (λ (o : Opened) (m : Bool). together o m (readingAppropriate n t list a) (readingAppropriate n t list b)) i e ∙
+          ap₂ (λ (o : Opened) (m : Bool). together o m (reading_appropriate n t list a) (reading_appropriate n t list b)) i e ∙
           ap₂ (λ (x y : Reading). together Accepted l x y) j k
 
       together-replies : {r : Reply} → PairListedDue n t list a b Then r →
-          (together (opened n t) (listAccepted n list) (readingAppropriate n t list a) (readingAppropriate n t list b)).reply ≡ r
+          (together (opened n t) (list_accepted n list) (reading_appropriate n t list a) (reading_appropriate n t list b)).reply ≡ r
       together-replies (due.table fault i) =
-          ap (λ (o : Opened). (together o (listAccepted n list) (readingAppropriate n t list a) (readingAppropriate n t list b)).reply) i
+          ap (λ (o : Opened). (together o (list_accepted n list) (reading_appropriate n t list a) (reading_appropriate n t list b)).reply) i
       together-replies (due.types i none) = ap (λ (y : Result). y.reply) (together-is i (not_listed none) refl refl)
       together-replies (due.first fault listing d) =
           ap (λ (y : Result). y.reply)
@@ -241,38 +241,38 @@ module _ (n : ℕ) (t list : List ℕ) where
           (exact s g given r).1 then
 
       pub pair-listed-exact : (r : Reply) →
-          ((checkedList n t (listAccepted n list) TypeList out
-          (readBoth (λ r. refusing r out) (readingAppropriate n t list a) (readingAppropriate n t list b) next)).reply ≡ r) ↔
+          ((checked_list n t (list_accepted n list) TypeList out
+          (read_both (λ r. refusing r out) (reading_appropriate n t list a) (reading_appropriate n t list b) next)).reply ≡ r) ↔
           PairListedDue n t list a b Then r
       pair-listed-exact r = (
         λ e. subst (PairListedDue n t list a b Then) e
-            (together-due (opened n t) (listAccepted n list) (readingAppropriate n t list a) (readingAppropriate n t list b) refl refl
+            (together-due (opened n t) (list_accepted n list) (reading_appropriate n t list a) (reading_appropriate n t list b) refl refl
             (beside-due n t list a) (beside-due n t list b)),
         together-replies,
       )
 
 -- A call with a reading order goes on with `next`.
-module _ {X : Type 0} (replyIn : X → Reply) (refuse : Reply → X) (keeps : (r : Reply) → replyIn (refuse r) ≡ r) (n : ℕ) (t list : List ℕ) (next : X)
-    (Rest : Reply → Type 0) (exact : opened n t ≡ Accepted → EachOnce list → (r : Reply) → (replyIn next ≡ r) ↔ Rest r) where
+module _ {X : Type 0} (reply_in : X → Reply) (refuse : Reply → X) (keeps : (r : Reply) → reply_in (refuse r) ≡ r) (n : ℕ) (t list : List ℕ) (next : X)
+    (Rest : Reply → Type 0) (exact : opened n t ≡ Accepted → EachOnce list → (r : Reply) → (reply_in next ≡ r) ↔ Rest r) where
   abbrev ranked : Opened → Bool → X
   ranked o l = checked refuse o (cond l next (refuse ReadingOrder))
 
-  ranked-due : (o : Opened) (l : Bool) → opened n t ≡ o → isReadingOrder list ≡ l → ByListDue n t list Rest (replyIn (ranked o l))
+  ranked-due : (o : Opened) (l : Bool) → opened n t ≡ o → is_reading_order list ≡ l → ByListDue n t list Rest (reply_in (ranked o l))
   ranked-due (Refused fault) l i e = subst (ByListDue n t list Rest) (sym (keeps (Table fault))) (due.table fault i)
   ranked-due Accepted false i e =
       subst (ByListDue n t list Rest) (sym (keeps ReadingOrder)) (due.order i (λ once. true-false ((reading-order list).1 once) e))
   ranked-due Accepted true i e =
       let once : EachOnce list = (reading-order list).0 e in
-      due.rest i once ((exact i once (replyIn next)).0 refl)
+      due.rest i once ((exact i once (reply_in next)).0 refl)
 
-  ranked-replies : {r : Reply} → ByListDue n t list Rest r → replyIn (ranked (opened n t) (isReadingOrder list)) ≡ r
-  ranked-replies (due.table fault i) = ap (λ (o : Opened). replyIn (ranked o (isReadingOrder list))) i ∙ keeps (Table fault)
+  ranked-replies : {r : Reply} → ByListDue n t list Rest r → reply_in (ranked (opened n t) (is_reading_order list)) ≡ r
+  ranked-replies (due.table fault i) = ap (λ (o : Opened). reply_in (ranked o (is_reading_order list))) i ∙ keeps (Table fault)
   ranked-replies (due.order i never) =
-      ap₂ (λ (o : Opened) (l : Bool). replyIn (ranked o l)) i (not-true-false (isReadingOrder list) (λ e. never ((reading-order list).0 e))) ∙
+      ap₂ (λ (o : Opened) (l : Bool). reply_in (ranked o l)) i (not-true-false (is_reading_order list) (λ e. never ((reading-order list).0 e))) ∙
       keeps ReadingOrder
   ranked-replies {r} (due.rest i once then) =
-      ap₂ (λ (o : Opened) (l : Bool). replyIn (ranked o l)) i ((reading-order list).1 once) ∙ (exact i once r).1 then
+      ap₂ (λ (o : Opened) (l : Bool). reply_in (ranked o l)) i ((reading-order list).1 once) ∙ (exact i once r).1 then
 
   pub by-list-exact : (r : Reply) →
-      (replyIn (checked refuse (opened n t) (cond (isReadingOrder list) next (refuse ReadingOrder))) ≡ r) ↔ ByListDue n t list Rest r
-  by-list-exact r = (λ e. subst (ByListDue n t list Rest) e (ranked-due (opened n t) (isReadingOrder list) refl refl), ranked-replies)
+      (reply_in (checked refuse (opened n t) (cond (is_reading_order list) next (refuse ReadingOrder))) ≡ r) ↔ ByListDue n t list Rest r
+  by-list-exact r = (λ e. subst (ByListDue n t list Rest) e (ranked-due (opened n t) (is_reading_order list) refl refl), ranked-replies)

@@ -26,8 +26,8 @@ module _ (n : ℕ) (t : List ℕ) (F : ℕ) (bytes out : List ℕ) where
   size opens = accepted-size n t (opened-accepted n t Accepted (sym opens) refl)
 
   -- the record of new bytes, by whether it fits
-  abbrev fittedBy : List ℕ → Bool → Result
-  fittedBy new b = result_of (cond b (yielding (outcome.Length (length new)) (new ++ drop (length new) out)) (yielding outcome.NoRoom out))
+  abbrev fitted_by : List ℕ → Bool → Result
+  fitted_by new b = result_of (cond b (yielding (outcome.Length (length new)) (new ++ drop (length new) out)) (yielding outcome.NoRoom out))
 
   step-due : StepDue n t F bytes (length out) (stepping n t F bytes out).reply
   unfolding fitted
@@ -51,7 +51,7 @@ module _ (n : ℕ) (t : List ℕ) (F : ℕ) (bytes out : List ℕ) where
           steps : Stepping n t F bytes
           steps = record { opens = opens; features = count; begun = begun }
 
-          room : (b : Bool) → leb (length new) (length out) ≡ b → StepDue n t F bytes (length out) (fittedBy new b).reply
+          room : (b : Bool) → leb (length new) (length out) ≡ b → StepDue n t F bytes (length out) (fitted_by new b).reply
           room true q =
               due.fits new steps ((Lists.following-least n F (size opens).0 (size opens).1 count bytes new).0 follows)
               (leb-true (length new) (length out) q)
@@ -71,10 +71,10 @@ module _ (n : ℕ) (t : List ℕ) (F : ℕ) (bytes out : List ℕ) where
       ap (λ (y : Result). y.reply) (Steps.end-given n t F bytes out steps.opens steps.features steps.begun ends)
   step-replies (due.no_room new steps least less) =
       ap (λ (y : Result). y.reply) (Steps.next-given n t F bytes out steps.opens steps.features steps.begun new least) ∙
-      ap (λ (b : Bool). (fittedBy new b).reply) (lt-leb (length new) (length out) less)
+      ap (λ (b : Bool). (fitted_by new b).reply) (lt-leb (length new) (length out) less)
   step-replies (due.fits new steps least fit) =
       ap (λ (y : Result). y.reply) (Steps.next-given n t F bytes out steps.opens steps.features steps.begun new least) ∙
-      ap (λ (b : Bool). (fittedBy new b).reply) (le-leb (length new) (length out) fit)
+      ap (λ (b : Bool). (fitted_by new b).reply) (le-leb (length new) (length out) fit)
 
   pub step-exact : (r : Reply) → ((stepping n t F bytes out).reply ≡ r) ↔ StepDue n t F bytes (length out) r
   step-exact r = (λ e. subst (StepDue n t F bytes (length out)) e step-due, step-replies)

@@ -10,25 +10,25 @@ use borrow.Author.Tests.{leb-true, leb-false}
 use lib.Dec.{leb, eqb}
 use lib.ListN.{length}
 use Rattle.graphs.specs.Rows.{Row}
-use Rattle.graphs.specs.Large.{linksIn}
+use Rattle.graphs.specs.Large.{links_in}
 use Rattle.graphs.specs.Difference.{Link, StrictOrder}
 use Rattle.graphs.proofs.Lists.{tells-eqb}
 use Rattle.graphs.proofs.Form.Invariant.{same-canonical}
 use Rattle.lattice.specs.Label.{Label}
-use Rattle.lattice.specs.Labels.{tableLabels}
+use Rattle.lattice.specs.Labels.{table_labels}
 use Rattle.acceptance.specs.declared.Opened.{Opened}
 use Rattle.acceptance.specs.declared.Opened.TheVariants.{Accepted, Refused}
 use Rattle.acceptance.specs.Reply.{opened}
-use Rattle.record.specs.Read.{Reading, refused, accepted, reading, graphOfRows}
+use Rattle.record.specs.Read.{Reading, refused, accepted, reading, graph_of_rows}
 use Rattle.replies.specs.declared.Reply.{Reply}
 use Rattle.replies.specs.declared.Reply.TheVariants as replies
 use Rattle.replies.specs.Reply.{Result, refusing, length_of}
-use Rattle.link_orders.specs.LinkOrders.{isReadingOrder}
-use Rattle.pairs.specs.Pair.{readBoth}
-use Rattle.engine.specs.Differing.{parting, reasonsOf}
-use Rattle.difference.specs.Difference.{differedRows}
-use Rattle.difference.specs.Explained.{Explained, explainedResult, withReasons}
-use Rattle.calls.specs.Calls.{checked, checkedList}
+use Rattle.link_orders.specs.LinkOrders.{is_reading_order}
+use Rattle.pairs.specs.Pair.{read_both}
+use Rattle.engine.specs.Differing.{parting, reasons_of}
+use Rattle.difference.specs.Difference.{differed_rows}
+use Rattle.difference.specs.Explained.{Explained, explained_result, with_reasons}
+use Rattle.calls.specs.Calls.{checked, checked_list}
 use Rattle.demands.specs.Demand.{Given, RecordOf, remainder}
 use Rattle.demands.specs.Due.{DifferDue, ExplainDue, PairDue, ByListDue}
 use Rattle.demands.specs.Due as due
@@ -38,43 +38,43 @@ use Rattle.demands.proofs.Demanded.Due.{differ-exact}
 
 -- A refusal before the difference stays as it is, with both outputs unchanged.
 module _ (reasons out old : List ℕ) where
-  abbrev refusingBoth : Reply → Explained
-  refusingBoth r = explainedResult r out old
+  abbrev refusing_both : Reply → Explained
+  refusing_both r = explained_result r out old
 
   module _ (next : List (Row Label) → List (Row Label) → Result) where
     read-beside : (x y : Reading) →
-        withReasons (readBoth (λ r. refusing r out) x y next) reasons out old ≡ readBoth refusingBoth x y (λ g s. withReasons (next g s) reasons out old)
+        with_reasons (read_both (λ r. refusing r out) x y next) reasons out old ≡ read_both refusing_both x y (λ g s. with_reasons (next g s) reasons out old)
     read-beside (refused fault) y = refl
     read-beside (accepted g) (refused fault) = refl
     read-beside (accepted g) (accepted s) = refl
 
   table_beside : (o : Opened) (next : Result) →
-      withReasons (checked (λ r. refusing r out) o next) reasons out old ≡ checked refusingBoth o (withReasons next reasons out old)
+      with_reasons (checked (λ r. refusing r out) o next) reasons out old ≡ checked refusing_both o (with_reasons next reasons out old)
   table_beside (Refused fault) next = refl
   table_beside Accepted next = refl
 
   list-beside : (l : Bool) (next : Result) →
-      withReasons (cond l next (refusing replies.ReadingOrder out)) reasons out old ≡
-      cond l (withReasons next reasons out old) (refusingBoth replies.ReadingOrder)
+      with_reasons (cond l next (refusing replies.ReadingOrder out)) reasons out old ≡
+      cond l (with_reasons next reasons out old) (refusing_both replies.ReadingOrder)
   list-beside true next = refl
   list-beside false next = refl
 
 module _ (n : ℕ) (t a b : List ℕ) {earlier : Link ℕ → Link ℕ → Bool} (strict : StrictOrder earlier) (g s : List (Row Label))
     (given : Given n t a b g s) (out old : List ℕ) where
   abbrev parted : Result
-  parted = differedRows earlier n t out g s
+  parted = differed_rows earlier n t out g s
 
   abbrev reasons : List ℕ
-  reasons = reasonsOf earlier n t a b
+  reasons = reasons_of earlier n t a b
 
   abbrev explained : Explained
-  explained = withReasons parted reasons out old
+  explained = with_reasons parted reasons out old
 
   -- There are as many reasons as the difference's record has links.
-  counted : (new : List ℕ) (one : RecordOf n t (remainder earlier n t g s) new) → length reasons ≡ linksIn one.is-written.form
+  counted : (new : List ℕ) (one : RecordOf n t (remainder earlier n t g s) new) → length reasons ≡ links_in one.is-written.form
   counted new one =
       reasons-count n t a b g s given earlier one.is-written.form
-      (same-canonical (tableLabels n t) eqb eqb tells-eqb tells-eqb (remainder earlier n t g s) (graphOfRows one.is-written.form) one.means ∙
+      (same-canonical (table_labels n t) eqb eqb tells-eqb tells-eqb (remainder earlier n t g s) (graph_of_rows one.is-written.form) one.means ∙
       one.is-written.own)
 
   plain-due : DifferDue n t earlier (length out) g s parted.reply
@@ -126,46 +126,46 @@ module _ (n : ℕ) (t a b : List ℕ) {earlier : Link ℕ → Link ℕ → Bool}
       rooms (length new) (plain-replies (due.written below all (due.fits new one fit))) (omega (arith, counted new one))
 
   explain-exact : (r : Reply) →
-      ((withReasons (differedRows earlier n t out g s) (reasonsOf earlier n t a b) out old).reply ≡ r) ↔
+      ((with_reasons (differed_rows earlier n t out g s) (reasons_of earlier n t a b) out old).reply ≡ r) ↔
       ExplainDue n t earlier (length out) (length old) g s r
   explain-exact r = (λ e. subst (ExplainDue n t earlier (length out) (length old) g s) e explain-due, explain-replies)
 
 -- The calls with reasons, by any order of links.
 module _ (n : ℕ) (t a b : List ℕ) {earlier : Link ℕ → Link ℕ → Bool} (strict : StrictOrder earlier) (out old : List ℕ) where
   abbrev told : List ℕ
-  told = reasonsOf earlier n t a b
+  told = reasons_of earlier n t a b
 
   abbrev next : List (Row Label) → List (Row Label) → Explained
-  next g s = withReasons (differedRows earlier n t out g s) told out old
+  next g s = with_reasons (differed_rows earlier n t out g s) told out old
 
   pub call-exact : (r : Reply) →
-      ((withReasons (checked (λ r. refusing r out) (opened n t) (parting earlier n t a b out)) told out old).reply ≡ r) ↔
+      ((with_reasons (checked (λ r. refusing r out) (opened n t) (parting earlier n t a b out)) told out old).reply ≡ r) ↔
       PairDue n t a b (ExplainDue n t earlier (length out) (length old)) r
   call-exact r =
       subst (λ (x : Explained). (x.reply ≡ r) ↔ PairDue n t a b (ExplainDue n t earlier (length out) (length old)) r)
       (sym
       (table_beside told out old (opened n t) (parting earlier n t a b out) ∙
-      ap (checked (refusingBoth told out old) (opened n t)) (read-beside told out old (differedRows earlier n t out) (reading n a) (reading n b))))
-      (pair-exact (λ (x : Explained). x.reply) (refusingBoth told out old) (λ r. refl) n t a b next
+      ap (checked (refusing_both told out old) (opened n t)) (read-beside told out old (differed_rows earlier n t out) (reading n a) (reading n b))))
+      (pair-exact (λ (x : Explained). x.reply) (refusing_both told out old) (λ r. refl) n t a b next
       (ExplainDue n t earlier (length out) (length old)) (λ g s given. explain-exact n t a b strict g s given out old) r)
 
   -- The same where a reading order is checked after the table.
   pub listed-call-exact : (list : List ℕ) (r : Reply) →
-      ((withReasons (checkedList n t (isReadingOrder list) replies.ReadingOrder out (parting earlier n t a b out)) told out old).reply ≡ r) ↔
+      ((with_reasons (checked_list n t (is_reading_order list) replies.ReadingOrder out (parting earlier n t a b out)) told out old).reply ≡ r) ↔
       ByListDue n t list (PairDue n t a b (ExplainDue n t earlier (length out) (length old))) r
   listed-call-exact list r =
       subst (λ (x : Explained). (x.reply ≡ r) ↔ ByListDue n t list (PairDue n t a b (ExplainDue n t earlier (length out) (length old))) r)
       (sym
       (table_beside told out old (opened n t)
-      (cond (isReadingOrder list) (parting earlier n t a b out) (refusing replies.ReadingOrder out)) ∙
-      ap (checked (refusingBoth told out old) (opened n t))
-      (list-beside told out old (isReadingOrder list) (parting earlier n t a b out) ∙
-      ap (λ (x : Explained). cond (isReadingOrder list) x (refusingBoth told out old replies.ReadingOrder))
-      (read-beside told out old (differedRows earlier n t out) (reading n a) (reading n b)))))
-      (by-list-exact (λ (x : Explained). x.reply) (refusingBoth told out old) (λ r. refl) n t list
-      (readBoth (refusingBoth told out old) (reading n a) (reading n b) next)
+      (cond (is_reading_order list) (parting earlier n t a b out) (refusing replies.ReadingOrder out)) ∙
+      ap (checked (refusing_both told out old) (opened n t))
+      (list-beside told out old (is_reading_order list) (parting earlier n t a b out) ∙
+      ap (λ (x : Explained). cond (is_reading_order list) x (refusing_both told out old replies.ReadingOrder))
+      (read-beside told out old (differed_rows earlier n t out) (reading n a) (reading n b)))))
+      (by-list-exact (λ (x : Explained). x.reply) (refusing_both told out old) (λ r. refl) n t list
+      (read_both (refusing_both told out old) (reading n a) (reading n b) next)
       (PairDue n t a b (ExplainDue n t earlier (length out) (length old)))
       (λ opens once.
-      over-table-exact (λ (x : Explained). x.reply) (refusingBoth told out old) (λ r. refl) n t a b next
+      over-table-exact (λ (x : Explained). x.reply) (refusing_both told out old) (λ r. refl) n t a b next
       (ExplainDue n t earlier (length out) (length old)) (λ g s given. explain-exact n t a b strict g s given out old) opens)
       r)

@@ -16,12 +16,12 @@ use Rattle.acceptance.specs.declared.Opened.TheVariants.{Accepted}
 use Rattle.acceptance.specs.Reply.{opened}
 use Rattle.encode.specs.declared.Written.TheVariants as outcome
 use Rattle.encode.specs.Encode.{fitted, yielding}
-use Rattle.record.specs.Read.{graphOfRows}
+use Rattle.record.specs.Read.{graph_of_rows}
 use Rattle.record.proofs.Theorems.{accepted-of-any-size}
 use Rattle.replies.specs.declared.Reply.{Reply}
 use Rattle.replies.specs.declared.Reply.TheVariants.{TooLarge}
 use Rattle.replies.specs.Reply.{Result, result_of}
-use Rattle.demands.specs.Demand.{WrittenRecord, RecordOf, Large, formBytes, recordOf, writing}
+use Rattle.demands.specs.Demand.{WrittenRecord, RecordOf, Large, form_bytes, record_of, writing}
 use Rattle.demands.specs.Due.{RoomDue}
 use Rattle.demands.specs.Due as due
 use Rattle.demands.proofs.Demanded.Recorded.{record-none, record-means, record-exact}
@@ -29,20 +29,20 @@ use Rattle.demands.proofs.Demanded.Recorded.{record-none, record-means, record-e
 module _ (n : ℕ) (t : List ℕ) (opens : opened n t ≡ Accepted) {C : Type 0} (same : C → C → Bool) (tells : TellsApart same) (k : Graph Label C)
     (size : OfAnySize n t k) where
   -- A graph has one record.
-  pub record_is : (new : List ℕ) → RecordOf n t k new → recordOf same k ≡ some new
+  pub record_is : (new : List ℕ) → RecordOf n t k new → record_of same k ≡ some new
   record_is new is =
       let one : WrittenRecord n new = is.is-written in
-      let own : recordOf eqb (graphOfRows one.form) ≡ some new = ap formBytes one.own ∙ ap some (sym one.bytes-are) in
-      (record-exact n t opens eqb tells-eqb (graphOfRows one.form) (accepted-of-any-size n new one.form one.reads t) new own same tells k size).0
+      let own : record_of eqb (graph_of_rows one.form) ≡ some new = ap form_bytes one.own ∙ ap some (sym one.bytes-are) in
+      (record-exact n t opens eqb tells-eqb (graph_of_rows one.form) (accepted-of-any-size n new one.form one.reads t) new own same tells k size).0
       (same-sym is.means)
 
   module _ (out : List ℕ) where
     abbrev pub call : Result
-    call = writing (recordOf same k) out
+    call = writing (record_of same k) out
 
     -- the record of new bytes, by whether it fits
-    abbrev fittedBy : List ℕ → Bool → Result
-    fittedBy new b = result_of (cond b (yielding (outcome.Length (length new)) (new ++ drop (length new) out)) (yielding outcome.NoRoom out))
+    abbrev fitted_by : List ℕ → Bool → Result
+    fitted_by new b = result_of (cond b (yielding (outcome.Length (length new)) (new ++ drop (length new) out)) (yielding outcome.NoRoom out))
 
     pub large-replies : Large k → call.reply ≡ TooLarge
     large-replies large = ap (λ (o : Option (List ℕ)). (writing o out).reply) ((record-none n t opens same tells k size).1 large)
@@ -51,10 +51,10 @@ module _ (n : ℕ) (t : List ℕ) (opens : opened n t ≡ Accepted) {C : Type 0}
     unfolding fitted
     room-replies (due.no_room new is less) =
         ap (λ (o : Option (List ℕ)). (writing o out).reply) (record_is new is) ∙
-        ap (λ (b : Bool). (fittedBy new b).reply) (lt-leb (length new) (length out) less)
+        ap (λ (b : Bool). (fitted_by new b).reply) (lt-leb (length new) (length out) less)
     room-replies (due.fits new is fit) =
         ap (λ (o : Option (List ℕ)). (writing o out).reply) (record_is new is) ∙
-        ap (λ (b : Bool). (fittedBy new b).reply) (le-leb (length new) (length out) fit)
+        ap (λ (b : Bool). (fitted_by new b).reply) (le-leb (length new) (length out) fit)
 
     pub data WriteDue : Reply → Type 0 where
       too_large : Large k → WriteDue TooLarge
@@ -62,12 +62,12 @@ module _ (n : ℕ) (t : List ℕ) (opens : opened n t ≡ Accepted) {C : Type 0}
 
     pub write-due : WriteDue call.reply
     unfolding fitted
-    write-due = go (recordOf same k) refl
+    write-due = go (record_of same k) refl
       where
-        room : (new : List ℕ) → RecordOf n t k new → (b : Bool) → leb (length new) (length out) ≡ b → WriteDue (fittedBy new b).reply
+        room : (new : List ℕ) → RecordOf n t k new → (b : Bool) → leb (length new) (length out) ≡ b → WriteDue (fitted_by new b).reply
         room new is true e = written (due.fits new is (leb-true (length new) (length out) e))
         room new is false e = written (due.no_room new is (leb-false (length new) (length out) e))
 
-        go : (o : Option (List ℕ)) → recordOf same k ≡ o → WriteDue (writing o out).reply
+        go : (o : Option (List ℕ)) → record_of same k ≡ o → WriteDue (writing o out).reply
         go none e = too_large ((record-none n t opens same tells k size).0 e)
         go (some new) e = room new (record-means n t opens same tells k size new e) (leb (length new) (length out)) refl

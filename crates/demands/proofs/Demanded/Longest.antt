@@ -13,19 +13,19 @@ use borrow.Author.Tests.{eqb-true, le-leb}
 use lib.Dec.{eqb}
 use lib.ListN.{length, get_or, replicate, length-map, get_or-eq_default}
 use Rattle.graphs.specs.Graph.{follow, Reached}
-use Rattle.graphs.specs.Rows.{Row, from, target, linksOf}
-use Rattle.graphs.specs.Number.{canonical, written, visit, each, member, row_of, index_of, linkCount, outDegree}
-use Rattle.graphs.specs.Large.{linksIn, Ascending}
+use Rattle.graphs.specs.Rows.{Row, from, target, links_of}
+use Rattle.graphs.specs.Number.{canonical, written, visit, each, member, row_of, index_of, link_count, out_degree}
+use Rattle.graphs.specs.Large.{links_in, Ascending}
 use Rattle.graphs.proofs.Walk.{none-some, some-injective, follow-start, reached-root, reached-link}
-use Rattle.graphs.proofs.Lists.{from-range, length_from, getD-from}
+use Rattle.graphs.proofs.Lists.{from-range, length_from, get_or-from}
 use Rattle.lattice.specs.Label.{Label, no_label}
 use Rattle.lattice.specs.Labels.{Known}
-use Rattle.lattice.specs.Table.{every, last, below, sized, confined, reflexive, antisymmetric, transitive, least, greatest, ordered, isMeet, isJoin, meet, join, bounded}
+use Rattle.lattice.specs.Table.{every, last, below, sized, confined, reflexive, antisymmetric, transitive, least, greatest, ordered, is_meet, is_join, meet, join, bounded}
 use Rattle.acceptance.specs.declared.Opened.TheVariants.{Accepted}
 use Rattle.acceptance.specs.Reply.{opened}
-use Rattle.encoder.specs.Encode.{isFull, encodedLabel, encodedRow, encodedRows, encoded}
+use Rattle.encoder.specs.Encode.{is_full, encoded_label, encoded_row, encoded_rows, encoded}
 use Rattle.encode.specs.Encode.{fitted}
-use Rattle.record.specs.Read.{graphOfRows}
+use Rattle.record.specs.Read.{graph_of_rows}
 use Rattle.record.proofs.Accepted.{Rules}
 use Rattle.record.proofs.Rewritten.{rules-read}
 use Rattle.record.proofs.Nodes.{target-source}
@@ -39,12 +39,12 @@ use Rattle.demands.proofs.Demanded.Meaning.{own-bytes}
 many : ℕ → ℕ
 many v = cond (eqb v 0) 52 (min 8 (254 - v))
 
-linksFrom : ℕ → List (ℕ × ℕ)
-linksFrom v = map (λ f. (f, v + 1 + f)) (from 0 (many v))
+links_from : ℕ → List (ℕ × ℕ)
+links_from v = map (λ f. (f, v + 1 + f)) (from 0 (many v))
 
 -- type 1, the greatest of two, and a range that is not full
 row_at : ℕ → Row Label
-row_at v = (record { type = 1; lowest = 0; highest = 254 }, linksFrom v)
+row_at v = (record { type = 1; lowest = 0; highest = 254 }, links_from v)
 
 rows : List (Row Label)
 rows = map row_at (from 0 255)
@@ -54,25 +54,25 @@ table : List ℕ
 table = 1 ∷ replicate 7 0 ++ 3 ∷ replicate 7 0
 
 opens : opened 2 table ≡ Accepted
-unfolding table opened sized ordered confined reflexive antisymmetric transitive least greatest bounded meet isMeet join isJoin every last below
+unfolding table opened sized ordered confined reflexive antisymmetric transitive least greatest bounded meet is_meet join is_join every last below
 opens = refl
 
 -- These facts are computed: the rows are their own written form, and their record has 4,854 bytes.
 
-own : canonical eqb (graphOfRows rows) ≡ written rows
-unfolding rows row_at linksFrom many canonical visit each member target from row_of linksOf index_of linkCount outDegree bind
+own : canonical eqb (graph_of_rows rows) ≡ written rows
+unfolding rows row_at links_from many canonical visit each member target from row_of links_of index_of link_count out_degree bind
 own = refl
 
 node-count : length rows ≡ 255
 unfolding rows from
 node-count = refl
 
-link-count : linksIn rows ≡ 2048
-unfolding rows row_at linksFrom many from linksIn
+link-count : links_in rows ≡ 2048
+unfolding rows row_at links_from many from links_in
 link-count = refl
 
 record-length : length (encoded rows) ≡ 4854
-unfolding rows row_at linksFrom many from encoded encodedRows encodedRow encodedLabel isFull
+unfolding rows row_at links_from many from encoded encoded_rows encoded_row encoded_label is_full
 record-length = refl
 
 -- The rows keep the rules of an accepted record.
@@ -86,8 +86,8 @@ many-cases v = go (eqb v 0) refl
     go true e = let z : v ≡ 0 = eqb-true v 0 e in (omega arith, λ h. omega arith, λ h. omega arith)
     go false e = (omega arith, λ h. omega arith, λ h. omega arith)
 
-link-says : (v : ℕ) (l : ℕ × ℕ) → Memᴰ l (linksFrom v) → (l.0 < many v) × (l.1 ≡ v + 1 + l.0)
-unfolding linksFrom
+link-says : (v : ℕ) (l : ℕ × ℕ) → Memᴰ l (links_from v) → (l.0 < many v) × (l.1 ≡ v + 1 + l.0)
+unfolding links_from
 link-says v l m =
     let (f, i, e) = Memᴰ.of_map {B = ℕ × ℕ} (λ f. (f, v + 1 + f)) (from 0 (many v)) m in
     subst (λ (x : ℕ × ℕ). (x.0 < many v) × (x.1 ≡ v + 1 + x.0)) e (omega (arith, from-range 0 (many v) f i), refl)
@@ -109,7 +109,7 @@ row-says P all r m = let (v, i, e) = Memᴰ.of_map row_at (from 0 255) m in subs
 
 row-at : (v : ℕ) → v < 255 → get_or rows v (no_label, []) ≡ row_at v
 unfolding rows
-row-at v h = getD-from row_at (no_label, []) 255 0 v h ∙ ap row_at (zero-add v)
+row-at v h = get_or-from row_at (no_label, []) 255 0 v h ∙ ap row_at (zero-add v)
 
 row-end : (v : ℕ) → 255 ≤ v → get_or rows v (no_label, []) ≡ (no_label, [])
 unfolding rows
@@ -117,30 +117,30 @@ row-end v h =
     get_or-eq_default rows (no_label, []) {n = v} (omega (arith, length-map (from 0 255) row_at, length_from 0 255))
 
 -- Links lead to higher numbers.
-link_up : (v f w : ℕ) → (graphOfRows rows).link v f ≡ some w → v < w
+link_up : (v f w : ℕ) → (graph_of_rows rows).link v f ≡ some w → v < w
 unfolding row_at target
 link_up v f w e = go (dec_le 255 v)
   where
     go : Dec (255 ≤ v) → v < w
     go (yes h) = none-some (ap (λ (r : Row Label). target r.1 f) (sym (row-end v h)) ∙ e)
     go (no h) =
-        let at : target (linksFrom v) f ≡ some w = ap (λ (r : Row Label). target r.1 f) (sym (row-at v (omega arith))) ∙ e in
-        let says = link-says v (f, w) (target-source (linksFrom v) f w at) in
+        let at : target (links_from v) f ≡ some w = ap (λ (r : Row Label). target r.1 f) (sym (row-at v (omega arith))) ∙ e in
+        let says = link-says v (f, w) (target-source (links_from v) f w at) in
         omega (arith, says.1)
 
-follow-up : (p : List ℕ) (v w : ℕ) → follow (graphOfRows rows).link (some v) p ≡ some w → v ≤ w
+follow-up : (p : List ℕ) (v w : ℕ) → follow (graph_of_rows rows).link (some v) p ≡ some w → v ≤ w
 unfolding follow
 follow-up [] v w e = let q : v ≡ w = some-injective e in omega arith
 follow-up (f ∷ p) v w e =
-    let (u, to) = follow-start (graphOfRows rows).link ((graphOfRows rows).link v f) p w e in
-    let later : u ≤ w = follow-up p u w (ap (λ (o : Option ℕ). follow (graphOfRows rows).link o p) (sym to) ∙ e) in
+    let (u, to) = follow-start (graph_of_rows rows).link ((graph_of_rows rows).link v f) p w e in
+    let later : u ≤ w = follow-up p u w (ap (λ (o : Option ℕ). follow (graph_of_rows rows).link o p) (sym to) ∙ e) in
     omega (arith, link_up v f u to)
 
-no-cycle : (v f : ℕ) (p : List ℕ) → follow (graphOfRows rows).link (some v) (f ∷ p) ≡ some v → ⊥
+no-cycle : (v f : ℕ) (p : List ℕ) → follow (graph_of_rows rows).link (some v) (f ∷ p) ≡ some v → ⊥
 unfolding follow
 no-cycle v f p e =
-    let (u, to) = follow-start (graphOfRows rows).link ((graphOfRows rows).link v f) p v e in
-    let later : u ≤ v = follow-up p u v (ap (λ (o : Option ℕ). follow (graphOfRows rows).link o p) (sym to) ∙ e) in
+    let (u, to) = follow-start (graph_of_rows rows).link ((graph_of_rows rows).link v f) p v e in
+    let later : u ≤ v = follow-up p u v (ap (λ (o : Option ℕ). follow (graph_of_rows rows).link o p) (sym to) ∙ e) in
     omega (arith, link_up v f u to)
 
 -- Feature 0 leads to the next node.
@@ -149,16 +149,16 @@ unfolding from target
 first-link v zero l = absurd (omega arith)
 first-link v (suc k) l = let q : v + 1 + 0 ≡ suc v = omega arith in ap some q
 
-next-node : (v : ℕ) → v < 254 → (graphOfRows rows).link v 0 ≡ some (suc v)
-unfolding row_at linksFrom
+next-node : (v : ℕ) → v < 254 → (graph_of_rows rows).link v 0 ≡ some (suc v)
+unfolding row_at links_from
 next-node v h = ap (λ (r : Row Label). target r.1 0) (row-at v (omega arith)) ∙ first-link v (many v) ((many-cases v).2 h)
 
-reached : (v : ℕ) → v < 255 → Reached (graphOfRows rows) v
-reached zero h = reached-root (graphOfRows rows)
-reached (suc v) h = reached-link (graphOfRows rows) 0 (reached v (omega arith)) (next-node v (omega arith))
+reached : (v : ℕ) → v < 255 → Reached (graph_of_rows rows) v
+reached zero h = reached-root (graph_of_rows rows)
+reached (suc v) h = reached-link (graph_of_rows rows) 0 (reached v (omega arith)) (next-node v (omega arith))
 
 rules : Rules 2 rows
-unfolding row_at linksFrom
+unfolding row_at links_from
 rules =
     record {
       nonempty = omega (arith, node-count);

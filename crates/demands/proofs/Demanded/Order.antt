@@ -14,8 +14,8 @@ use Rattle.lattice.specs.Label.{Label}
 use Rattle.acceptance.specs.declared.Opened.{Opened}
 use Rattle.acceptance.specs.declared.Opened.TheVariants as opened
 use Rattle.acceptance.specs.Reply as table
-use Rattle.lattice.specs.Labels.{tableLabels}
-use Rattle.record.specs.Read.{Reading, refused, accepted, reading, graphOfRows}
+use Rattle.lattice.specs.Labels.{table_labels}
+use Rattle.record.specs.Read.{Reading, refused, accepted, reading, graph_of_rows}
 use Rattle.record.specs.declared.GraphFault.{GraphFault}
 use Rattle.record.proofs.Accepted.{accepted-rules}
 use Rattle.replies.specs.declared.Side.TheVariants.{First, Second}
@@ -24,30 +24,30 @@ use Rattle.replies.specs.declared.answers.Answer.TheVariants as answer
 use Rattle.replies.specs.declared.Reply.{Reply}
 use Rattle.replies.specs.declared.Reply.TheVariants.{Same, Under, Above, Neither, Table, Graph}
 use Rattle.replies.specs.Reply.{answer_of}
-use Rattle.subsume.specs.Promise.{rowsBelow}
+use Rattle.subsume.specs.Promise.{rows_below}
 use Rattle.calls.specs.Calls.{checked, ordering}
-use Rattle.pairs.specs.Pair.{readBoth}
+use Rattle.pairs.specs.Pair.{read_both}
 use Rattle.orders.specs.Ordering.{compared, ordered}
 use Rattle.demands.specs.Demand.{Given, AnswersBelow, AnswersNotBelow}
 use Rattle.record.proofs.Ordered.{order-test}
 
 -- the two tests that one of the four tells
-toldIn : Answer → Option (Bool × Bool)
-toldIn answer.Same = some (true, true)
-toldIn answer.Under = some (true, false)
-toldIn answer.Above = some (false, true)
-toldIn answer.Neither = some (false, false)
-toldIn (answer.Length l) = none
-toldIn (answer.Counts nodes rows) = none
-toldIn answer.End = none
-toldIn (answer.Refused number) = none
-toldIn (answer.RefusedGraph number side) = none
+told_in : Answer → Option (Bool × Bool)
+told_in answer.Same = some (true, true)
+told_in answer.Under = some (true, false)
+told_in answer.Above = some (false, true)
+told_in answer.Neither = some (false, false)
+told_in (answer.Length l) = none
+told_in (answer.Counts nodes rows) = none
+told_in answer.End = none
+told_in (answer.Refused number) = none
+told_in (answer.RefusedGraph number side) = none
 
 abbrev told : Reply → Option (Bool × Bool)
-told r = toldIn (answer_of r)
+told r = told_in (answer_of r)
 
 compared-told : (x y : Bool) → told (compared x y) ≡ some (x, y)
-unfolding toldIn
+unfolding told_in
 compared-told true true = refl
 compared-told true false = refl
 compared-told false true = refl
@@ -65,89 +65,89 @@ refusal-told : (r : Reply) (x y : Bool) → told r ≡ none → r ≡ compared x
 refusal-told r x y q e = none-some (sym q ∙ ap told e ∙ compared-told x y)
 
 module _ (n : ℕ) (t a b : List ℕ) (s g : List (Row Label)) (given : Given n t a b s g) where
-  ordering-is : ordering n t a b ≡ compared (rowsBelow n t s g) (rowsBelow n t g s)
+  ordering-is : ordering n t a b ≡ compared (rows_below n t s g) (rows_below n t g s)
   unfolding ordering ordered
   ordering-is = rw (given.opens, given.first, given.second)
 
   -- Each test decides the order over paths.
-  lower : (rowsBelow n t s g ≡ true) ↔ Below (tableLabels n t) (graphOfRows s) (graphOfRows g)
+  lower : (rows_below n t s g ≡ true) ↔ Below (table_labels n t) (graph_of_rows s) (graph_of_rows g)
   lower = order-test n t s g (accepted-rules n b g given.second)
 
-  upper : (rowsBelow n t g s ≡ true) ↔ Below (tableLabels n t) (graphOfRows g) (graphOfRows s)
+  upper : (rows_below n t g s ≡ true) ↔ Below (table_labels n t) (graph_of_rows g) (graph_of_rows s)
   upper = order-test n t g s (accepted-rules n a s given.first)
 
-  not_lower : (rowsBelow n t s g ≡ false) ↔ (Below (tableLabels n t) (graphOfRows s) (graphOfRows g) → ⊥)
-  not_lower = (λ q x. true-false (lower.1 x) q, λ none. not-true-false (rowsBelow n t s g) (λ q. none (lower.0 q)))
+  not_lower : (rows_below n t s g ≡ false) ↔ (Below (table_labels n t) (graph_of_rows s) (graph_of_rows g) → ⊥)
+  not_lower = (λ q x. true-false (lower.1 x) q, λ none. not-true-false (rows_below n t s g) (λ q. none (lower.0 q)))
 
-  not-upper : (rowsBelow n t g s ≡ false) ↔ (Below (tableLabels n t) (graphOfRows g) (graphOfRows s) → ⊥)
-  not-upper = (λ q x. true-false (upper.1 x) q, λ none. not-true-false (rowsBelow n t g s) (λ q. none (upper.0 q)))
+  not-upper : (rows_below n t g s ≡ false) ↔ (Below (table_labels n t) (graph_of_rows g) (graph_of_rows s) → ⊥)
+  not-upper = (λ q x. true-false (upper.1 x) q, λ none. not-true-false (rows_below n t g s) (λ q. none (upper.0 q)))
 
   -- an answer is given exactly where the tests give it
-  answer-exact : (x y : Bool) → (ordering n t a b ≡ compared x y) ↔ ((rowsBelow n t s g ≡ x) × (rowsBelow n t g s ≡ y))
+  answer-exact : (x y : Bool) → (ordering n t a b ≡ compared x y) ↔ ((rows_below n t s g ≡ x) × (rows_below n t g s ≡ y))
   answer-exact x y = (
-    λ e. compared-injective (rowsBelow n t s g) (rowsBelow n t g s) x y (sym ordering-is ∙ e),
+    λ e. compared-injective (rows_below n t s g) (rows_below n t g s) x y (sym ordering-is ∙ e),
     λ (p, q). ordering-is ∙ ap₂ compared p q,
   )
 
   -- Each of the four answers is given exactly where it is true over paths.
   pub same-exact : (ordering n t a b ≡ Same) ↔
-      (Below (tableLabels n t) (graphOfRows s) (graphOfRows g) × Below (tableLabels n t) (graphOfRows g) (graphOfRows s))
+      (Below (table_labels n t) (graph_of_rows s) (graph_of_rows g) × Below (table_labels n t) (graph_of_rows g) (graph_of_rows s))
   same-exact = (
     λ e. let (p, q) = (answer-exact true true).0 e in (lower.0 p, upper.0 q),
     λ (x, y). (answer-exact true true).1 (lower.1 x, upper.1 y),
   )
 
   pub under-exact : (ordering n t a b ≡ Under) ↔
-      (Below (tableLabels n t) (graphOfRows s) (graphOfRows g) × (Below (tableLabels n t) (graphOfRows g) (graphOfRows s) → ⊥))
+      (Below (table_labels n t) (graph_of_rows s) (graph_of_rows g) × (Below (table_labels n t) (graph_of_rows g) (graph_of_rows s) → ⊥))
   under-exact = (
     λ e. let (p, q) = (answer-exact true false).0 e in (lower.0 p, not-upper.0 q),
     λ (x, y). (answer-exact true false).1 (lower.1 x, not-upper.1 y),
   )
 
   pub above-exact : (ordering n t a b ≡ Above) ↔
-      (Below (tableLabels n t) (graphOfRows g) (graphOfRows s) × (Below (tableLabels n t) (graphOfRows s) (graphOfRows g) → ⊥))
+      (Below (table_labels n t) (graph_of_rows g) (graph_of_rows s) × (Below (table_labels n t) (graph_of_rows s) (graph_of_rows g) → ⊥))
   above-exact = (
     λ e. let (p, q) = (answer-exact false true).0 e in (upper.0 q, not_lower.0 p),
     λ (x, y). (answer-exact false true).1 (not_lower.1 y, upper.1 x),
   )
 
   pub neither-exact : (ordering n t a b ≡ Neither) ↔
-      ((Below (tableLabels n t) (graphOfRows s) (graphOfRows g) → ⊥) × (Below (tableLabels n t) (graphOfRows g) (graphOfRows s) → ⊥))
+      ((Below (table_labels n t) (graph_of_rows s) (graph_of_rows g) → ⊥) × (Below (table_labels n t) (graph_of_rows g) (graph_of_rows s) → ⊥))
   neither-exact = (
     λ e. let (p, q) = (answer-exact false false).0 e in (not_lower.0 p, not-upper.0 q),
     λ (x, y). (answer-exact false false).1 (not_lower.1 x, not-upper.1 y),
   )
 
   -- The order answers same or under exactly where the first graph is below the second, and above or neither exactly where it is not.
-  pub order-exact : (AnswersBelow n t a b ↔ Below (tableLabels n t) (graphOfRows s) (graphOfRows g)) ×
-      (AnswersNotBelow n t a b ↔ (Below (tableLabels n t) (graphOfRows s) (graphOfRows g) → ⊥))
+  pub order-exact : (AnswersBelow n t a b ↔ Below (table_labels n t) (graph_of_rows s) (graph_of_rows g)) ×
+      (AnswersNotBelow n t a b ↔ (Below (table_labels n t) (graph_of_rows s) (graph_of_rows g) → ⊥))
   order-exact = (
     (
       λ answer. ⊎_elim (λ (e : ordering n t a b ≡ Same). (same-exact.0 e).0) (λ (e : ordering n t a b ≡ Under). (under-exact.0 e).0) answer,
-      λ x. below (rowsBelow n t g s) refl (lower.1 x),
+      λ x. below (rows_below n t g s) refl (lower.1 x),
     ),
     (
       λ answer. ⊎_elim (λ (e : ordering n t a b ≡ Above). (above-exact.0 e).1) (λ (e : ordering n t a b ≡ Neither). (neither-exact.0 e).0) answer,
-      λ none. not-below (rowsBelow n t g s) refl (not_lower.1 none),
+      λ none. not-below (rows_below n t g s) refl (not_lower.1 none),
     ),
   )
     where
-      below : (y : Bool) → rowsBelow n t g s ≡ y → rowsBelow n t s g ≡ true → AnswersBelow n t a b
+      below : (y : Bool) → rows_below n t g s ≡ y → rows_below n t s g ≡ true → AnswersBelow n t a b
       below true q p = inl ((answer-exact true true).1 (p, q))
       below false q p = inr ((answer-exact true false).1 (p, q))
 
-      not-below : (y : Bool) → rowsBelow n t g s ≡ y → rowsBelow n t s g ≡ false → AnswersNotBelow n t a b
+      not-below : (y : Bool) → rows_below n t g s ≡ y → rows_below n t s g ≡ false → AnswersNotBelow n t a b
       not-below true q p = inl ((answer-exact false true).1 (p, q))
       not-below false q p = inr ((answer-exact false false).1 (p, q))
 
 -- Each of the four answers says that the table and both records are accepted.
 answer-given : (n : ℕ) (t a b : List ℕ) (x y : Bool) → ordering n t a b ≡ compared x y →
     (s : List (Row Label)) × (g : List (Row Label)) × Given n t a b s g
-unfolding ordering toldIn
+unfolding ordering told_in
 answer-given n t a b x y e = go (table.opened n t) (reading n a) (reading n b) refl refl refl e
   where
     go : (o : Opened) (v w : Reading) → table.opened n t ≡ o → reading n a ≡ v → reading n b ≡ w →
-        checked (λ r. r) o (readBoth (λ r. r) v w (ordered n t)) ≡ compared x y →
+        checked (λ r. r) o (read_both (λ r. r) v w (ordered n t)) ≡ compared x y →
         (s : List (Row Label)) × (g : List (Row Label)) × Given n t a b s g
     go (opened.Refused fault) v w i j k e = absurd (refusal-told (Table fault) x y refl e)
     go opened.Accepted (refused fault) w i j k e = absurd (refusal-told (Graph fault First) x y refl e)
@@ -169,12 +169,12 @@ module _ (n : ℕ) (t a b : List ℕ) where
   -- Where only one of the two records is refused, swapping them swaps the side that the refusal tells.
   pub refusal-turned : (s : List (Row Label)) → reading n a ≡ accepted s → (fault : GraphFault) →
       (ordering n t a b ≡ Graph fault Second) ↔ (ordering n t b a ≡ Graph fault First)
-  unfolding ordering ordered toldIn
+  unfolding ordering ordered told_in
   refusal-turned s e fault = rw e (go (table.opened n t) (reading n b))
     where
       go : (o : Opened) (w : Reading) →
-          (checked (λ r. r) o (readBoth (λ r. r) (accepted s) w (ordered n t)) ≡ Graph fault Second) ↔
-          (checked (λ r. r) o (readBoth (λ r. r) w (accepted s) (ordered n t)) ≡ Graph fault First)
+          (checked (λ r. r) o (read_both (λ r. r) (accepted s) w (ordered n t)) ≡ Graph fault Second) ↔
+          (checked (λ r. r) o (read_both (λ r. r) w (accepted s) (ordered n t)) ≡ Graph fault First)
       go (opened.Refused other) w = (
         λ q. let z : ◌≡◌ {A = ℕ} 0 1 = cc in absurd (omega arith),
         λ q. let z : ◌≡◌ {A = ℕ} 0 1 = cc in absurd (omega arith),
@@ -184,6 +184,6 @@ module _ (n : ℕ) (t a b : List ℕ) where
         λ q. let same : other ≡ fault = cc in ap (λ f. Graph f Second) same,
       )
       go opened.Accepted (accepted g) = (
-        λ q. absurd (refusal-told (Graph fault Second) (rowsBelow n t s g) (rowsBelow n t g s) refl (sym q)),
-        λ q. absurd (refusal-told (Graph fault First) (rowsBelow n t g s) (rowsBelow n t s g) refl (sym q)),
+        λ q. absurd (refusal-told (Graph fault Second) (rows_below n t s g) (rows_below n t g s) refl (sym q)),
+        λ q. absurd (refusal-told (Graph fault First) (rows_below n t g s) (rows_below n t s g) refl (sym q)),
       )

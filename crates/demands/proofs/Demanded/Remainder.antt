@@ -17,7 +17,7 @@ use Rattle.graphs.proofs.Lists.{tells-eqb}
 use Rattle.graphs.proofs.Difference.Computed.{Setting}
 use Rattle.lattice.specs.Label.{Label, no_label}
 use Rattle.lattice.specs.Table as table
-use Rattle.lattice.specs.Labels.{tableLabels, Known, wantedLabel, OfAnySize, GreatestOfAnySize}
+use Rattle.lattice.specs.Labels.{table_labels, Known, wanted_label, OfAnySize, GreatestOfAnySize}
 use Rattle.lattice.proofs.WantedLabels.{lawful-wanted}
 use Rattle.lattice.proofs.Lawful.{KnownLabel, lawful, lawful-lattice}
 use Rattle.lattice.proofs.Transfer.{lift, map-lift, lift-any-size}
@@ -33,14 +33,14 @@ use Rattle.lattice.proofs.AnySize.{
   below_both,
   below-transitive,
 }
-use Rattle.record.specs.Read.{graphOfRows}
+use Rattle.record.specs.Read.{graph_of_rows}
 use Rattle.record.proofs.Nodes.{few-nodes, few-links}
 use Rattle.record.proofs.Accepted.{Rules, rules-linked}
-use Rattle.difference.specs.Promise.{wantedAlong, differenceAlong}
-use Rattle.difference.specs.Difference.{over, wantedAt, allWanted, differenceRows}
+use Rattle.difference.specs.Promise.{wanted_along, difference_along}
+use Rattle.difference.specs.Difference.{over, wanted_at, all_wanted, difference_rows}
 use Rattle.demands.specs.Demand.{Large, Restores}
 use Rattle.difference.proofs.Over.{over-map}
-use Rattle.demands.proofs.Demanded.Wanted.{general-size, specific-size, operands, labelOver, meet-label, s-label, label-below, wanted-exact, wanted-found}
+use Rattle.demands.proofs.Demanded.Wanted.{general-size, specific-size, operands, label_over, meet-label, s-label, label-below, wanted-exact, wanted-found}
 
 -- A graph that has the root of another graph, and only links of it, reaches only nodes that the other graph reaches.
 fewer-reached : {L A : Type 0} (d s : Graph L A) → d.root ≡ s.root →
@@ -72,100 +72,100 @@ fewer-large d s same links (inr (ls, distinct, all, many)) =
     )
 
 module _ (n : ℕ) (t : List ℕ) (ok : table.accepted n t ≡ true) (g s : List (Row Label)) (general : Rules n g) (specific : Rules n s)
-    (below : Below (tableLabels n t) (graphOfRows s) (graphOfRows g)) where
-  abbrev g-size : OfAnySize n t (graphOfRows g)
+    (below : Below (table_labels n t) (graph_of_rows s) (graph_of_rows g)) where
+  abbrev g-size : OfAnySize n t (graph_of_rows g)
   g-size = general-size n t ok g s general specific below
 
-  abbrev s-size : OfAnySize n t (graphOfRows s)
+  abbrev s-size : OfAnySize n t (graph_of_rows s)
   s-size = specific-size n t ok g s general specific below
 
-  module _ (all : allWanted n t s g ≡ true) where
-    found : (v : ℕ) → (c : Label) × (wantedAt n t s g v ≡ some c)
+  module _ (all : all_wanted n t s g ≡ true) where
+    found : (v : ℕ) → (c : Label) × (wanted_at n t s g v ≡ some c)
     found = wanted-found n t ok g s general specific below all
 
-    abbrev orNone : Option Label → Label
-    orNone o = get_or o no_label
+    abbrev or_none : Option Label → Label
+    or_none o = get_or o no_label
 
     -- the wanted labels, as those of the lattice
-    wanted-known : (v : ℕ) → Known n (orNone (wantedAt n t s g v))
+    wanted-known : (v : ℕ) → Known n (or_none (wanted_at n t s g v))
     wanted-known v =
         let (c, e) = found v in
-        subst (Known n) (sym (ap orNone e)) ((wanted-exact n t ok g s general specific below v c).0 e).known
+        subst (Known n) (sym (ap or_none e)) ((wanted-exact n t ok g s general specific below v c).0 e).known
 
-    abbrev wantedOf : ℕ → KnownLabel n
-    wantedOf v = (orNone (wantedAt n t s g v), wanted-known v)
+    abbrev wanted_of : ℕ → KnownLabel n
+    wanted_of v = (or_none (wanted_at n t s g v), wanted-known v)
 
     wanted-is : (v : ℕ) →
-        IsWanted (lawful n t ok) (labelOver n t ok g s general specific below v) ((lift n t ok (graphOfRows s)).label v) (wantedOf v)
-    unfolding wantedAlong
+        IsWanted (lawful n t ok) (label_over n t ok g s general specific below v) ((lift n t ok (graph_of_rows s)).label v) (wanted_of v)
+    unfolding wanted_along
     wanted-is v =
         let (c, e) = found v in
-        lawful-wanted n t ok (labelOver n t ok g s general specific below v) ((lift n t ok (graphOfRows s)).label v) (wantedOf v)
-        (ap₂ (tableLabels n t).le (s-label n t ok g s general specific below v) (sym (meet-label n t ok g s general specific below v)) ∙
+        lawful-wanted n t ok (label_over n t ok g s general specific below v) ((lift n t ok (graph_of_rows s)).label v) (wanted_of v)
+        (ap₂ (table_labels n t).le (s-label n t ok g s general specific below v) (sym (meet-label n t ok g s general specific below v)) ∙
         label-below n t ok g s general specific below v)
-        (ap₂ (wantedLabel n t) (s-label n t ok g s general specific below v) (sym (meet-label n t ok g s general specific below v)) ∙ e ∙
-        ap some (sym (ap orNone e)))
+        (ap₂ (wanted_label n t) (s-label n t ok g s general specific below v) (sym (meet-label n t ok g s general specific below v)) ∙ e ∙
+        ap some (sym (ap or_none e)))
 
     module _ {earlier : Link ℕ → Link ℕ → Bool} (strict : StrictOrder earlier) where
       -- the difference by those labels
-      abbrev byLabels : Graph Label ℕ
-      byLabels =
-          difference (tableLabels n t) eqb eqb earlier (graphOfRows s) (from 0 (length s)) (graphOfRows g) (from 0 (length g)) (over s g)
-          (λ v. (wantedOf v).0)
+      abbrev by_labels : Graph Label ℕ
+      by_labels =
+          difference (table_labels n t) eqb eqb earlier (graph_of_rows s) (from 0 (length s)) (graph_of_rows g) (from 0 (length g)) (over s g)
+          (λ v. (wanted_of v).0)
 
-      rows-difference : differenceRows earlier n t g s ≡ byLabels
-      unfolding differenceAlong
+      rows-difference : difference_rows earlier n t g s ≡ by_labels
+      unfolding difference_along
       rows-difference = refl
 
-      setting : Setting (lawful n t ok) eqb eqb earlier (lift n t ok (graphOfRows s)) (from 0 (length s)) (lift n t ok (graphOfRows g))
-          (from 0 (length g)) (over s g) wantedOf
+      setting : Setting (lawful n t ok) eqb eqb earlier (lift n t ok (graph_of_rows s)) (from 0 (length s)) (lift n t ok (graph_of_rows g))
+          (from 0 (length g)) (over s g) wanted_of
       setting =
           record {
             lattice = lawful-lattice n t ok;
             operands = operands n t ok g s general specific below;
             order = strict;
-            sound = lift-any-size n t ok (graphOfRows s) s-size;
-            map = (map-lift n t ok (graphOfRows s) (graphOfRows g) s-size.typed g-size.typed (over s g)).0 (over-map n t g s general below);
+            sound = lift-any-size n t ok (graph_of_rows s) s-size;
+            map = (map-lift n t ok (graph_of_rows s) (graph_of_rows g) s-size.typed g-size.typed (over s g)).0 (over-map n t g s general below);
             wants = λ v _. wanted-is v;
           }
 
       -- The difference is no larger than s, so it always can be written.
-      pub rows-small : Large (differenceRows earlier n t g s) → ⊥
+      pub rows-small : Large (difference_rows earlier n t g s) → ⊥
       unfolding difference
       rows-small large =
           ⊎_elim (few-nodes s (rules-linked specific) specific.short) (few-links s specific.links)
-          (fewer-large byLabels (graphOfRows s) refl
-          (difference-links n t ok eqb eqb earlier (graphOfRows s) (from 0 (length s)) (graphOfRows g) (from 0 (length g)) (over s g) wantedOf
+          (fewer-large by_labels (graph_of_rows s) refl
+          (difference-links n t ok eqb eqb earlier (graph_of_rows s) (from 0 (length s)) (graph_of_rows g) (from 0 (length g)) (over s g) wanted_of
           s-size g-size setting)
           (subst (λ (k : Graph Label ℕ). Large k) rows-difference large))
 
       -- The difference restores s with g, and nothing more general does.
-      pub rows-restore : Restores n t (differenceRows earlier n t g s) (graphOfRows g) (graphOfRows s)
+      pub rows-restore : Restores n t (difference_rows earlier n t g s) (graph_of_rows g) (graph_of_rows s)
       rows-restore =
-          subst (λ (k : Graph Label ℕ). Restores n t k (graphOfRows g) (graphOfRows s)) (sym rows-difference)
+          subst (λ (k : Graph Label ℕ). Restores n t k (graph_of_rows g) (graph_of_rows s)) (sym rows-difference)
           (record {
             of-any-size = size;
             restores = best;
             most-general = λ e c (above, strict) u is.
-                difference-most-general n t ok eqb eqb earlier (graphOfRows s) (from 0 (length s)) (graphOfRows g) (from 0 (length g)) (over s g)
-                wantedOf s-size g-size setting e c above strict u is;
+                difference-most-general n t ok eqb eqb earlier (graph_of_rows s) (from 0 (length s)) (graph_of_rows g) (from 0 (length g)) (over s g)
+                wanted_of s-size g-size setting e c above strict u is;
             combines = λ same tells e c (above, _).
                 let (u, q) =
-                unification-exists n t ok same eqb tells tells-eqb e (graphOfRows g) c g-size (graphOfRows s) s-size
-                (below-transitive n t ok (graphOfRows s) byLabels e s-size size c best.left above) below in
-                let (bounded, is) = unification-combination n t ok same eqb tells tells-eqb e (graphOfRows g) c g-size u q in
-                (u, is, combination-greatest n t ok e (graphOfRows g) c g-size u bounded is);
+                unification-exists n t ok same eqb tells tells-eqb e (graph_of_rows g) c g-size (graph_of_rows s) s-size
+                (below-transitive n t ok (graph_of_rows s) by_labels e s-size size c best.left above) below in
+                let (bounded, is) = unification-combination n t ok same eqb tells tells-eqb e (graph_of_rows g) c g-size u q in
+                (u, is, combination-greatest n t ok e (graph_of_rows g) c g-size u bounded is);
             not_none = λ e c (above, _).
-                combines-not-refuted n t ok byLabels e (graphOfRows g) (graphOfRows g) size c g-size g-size above
-                ((below_both n t ok (graphOfRows g) (graphOfRows g) g-size g-size).0 (same_refl (graphOfRows g))).0 (graphOfRows s) best;
+                combines-not-refuted n t ok by_labels e (graph_of_rows g) (graph_of_rows g) size c g-size g-size above
+                ((below_both n t ok (graph_of_rows g) (graph_of_rows g) g-size g-size).0 (same_refl (graph_of_rows g))).0 (graph_of_rows s) best;
           })
         where
-          size : OfAnySize n t byLabels
+          size : OfAnySize n t by_labels
           size =
-              difference-of-any-size n t ok eqb eqb earlier (graphOfRows s) (from 0 (length s)) (graphOfRows g) (from 0 (length g)) (over s g)
-              wantedOf s-size g-size setting
+              difference-of-any-size n t ok eqb eqb earlier (graph_of_rows s) (from 0 (length s)) (graph_of_rows g) (from 0 (length g)) (over s g)
+              wanted_of s-size g-size setting
 
-          best : GreatestOfAnySize n t byLabels (graphOfRows g) (graphOfRows s)
+          best : GreatestOfAnySize n t by_labels (graph_of_rows g) (graph_of_rows s)
           best =
-              difference-restores n t ok eqb eqb earlier (graphOfRows s) (from 0 (length s)) (graphOfRows g) (from 0 (length g)) (over s g)
-              wantedOf s-size g-size setting
+              difference-restores n t ok eqb eqb earlier (graph_of_rows s) (from 0 (length s)) (graph_of_rows g) (from 0 (length g)) (over s g)
+              wanted_of s-size g-size setting

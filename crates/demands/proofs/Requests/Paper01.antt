@@ -12,10 +12,10 @@ use Rattle.graphs.specs.Generalize.{generalization}
 use Rattle.lattice.specs.Label.{Label}
 use Rattle.acceptance.specs.declared.Opened.TheVariants.{Accepted}
 use Rattle.acceptance.specs.Reply.{opened}
-use Rattle.lattice.specs.Labels.{tableLabels, OfAnySize, LeastOfAnySize, GreatestOfAnySize, IsCombination}
+use Rattle.lattice.specs.Labels.{table_labels, OfAnySize, LeastOfAnySize, GreatestOfAnySize, IsCombination}
 use Rattle.acceptance.proofs.Acceptance.{opened-accepted}
 use Rattle.lattice.proofs.AnySize.{generalization-least, least-monotone, greatest-monotone, combines-broader, combines-not-refuted}
-use Rattle.record.specs.Read.{reading, accepted, graphOfRows}
+use Rattle.record.specs.Read.{reading, accepted, graph_of_rows}
 use Rattle.replies.specs.declared.Reply.TheVariants.{Length, Cycle, Clash}
 use Rattle.calls.specs.Calls.{generalizing, unifying}
 use Rattle.demands.specs.Demand.{Given, AnswersBelow}
@@ -42,7 +42,7 @@ module _ (n : ℕ) (t a b c d : List ℕ) (first : AnswersBelow n t a b) (second
 
 -- The theorems over paths: g, k, h and m are the rows of a, b, c and d, and x and y are the rows of what is written.
 module _ (n : ℕ) (t a b c d : List ℕ) (g k h m : List (Row Label)) (narrow : Given n t a c g h) (broad : Given n t b d k m)
-    (first : Below (tableLabels n t) (graphOfRows g) (graphOfRows k)) (second : Below (tableLabels n t) (graphOfRows h) (graphOfRows m))
+    (first : Below (table_labels n t) (graph_of_rows g) (graph_of_rows k)) (second : Below (table_labels n t) (graph_of_rows h) (graph_of_rows m))
     (out out' : List ℕ) where
   a-below : RecordBelow n t a b
   a-below = rows-below n t a b g k narrow.opens narrow.first broad.first first
@@ -56,33 +56,33 @@ module _ (n : ℕ) (t a b c d : List ℕ) (g k h m : List (Row Label)) (narrow :
 
   pub paths-combination : (l l' : ℕ) → (unifying n t a c out).reply ≡ Length l → (unifying n t b d out').reply ≡ Length l' →
       (x y : List (Row Label)) → reading n (take l (unifying n t a c out).output) ≡ accepted x →
-      reading n (take l' (unifying n t b d out').output) ≡ accepted y → Below (tableLabels n t) (graphOfRows x) (graphOfRows y)
+      reading n (take l' (unifying n t b d out').output) ≡ accepted y → Below (table_labels n t) (graph_of_rows x) (graph_of_rows y)
   paths-combination l l' p q = below-paths n t _ _ (Broader.combination-below n t a b c d a-below c-below out out' l l' p q)
 
   pub paths-common-part : (l l' : ℕ) → (generalizing n t a c out).reply ≡ Length l → (generalizing n t b d out').reply ≡ Length l' →
       (x y : List (Row Label)) → reading n (take l (generalizing n t a c out).output) ≡ accepted x →
-      reading n (take l' (generalizing n t b d out').output) ≡ accepted y → Below (tableLabels n t) (graphOfRows x) (graphOfRows y)
+      reading n (take l' (generalizing n t b d out').output) ≡ accepted y → Below (table_labels n t) (graph_of_rows x) (graph_of_rows y)
   paths-common-part l l' p q = below-paths n t _ _ (Broader.common-part-below n t a b c d a-below c-below out out' l l' p q)
 
 -- Graphs of any size always have a common part.
 pub any-size-common-part-exists : (n : ℕ) (t : List ℕ) → opened n t ≡ Accepted → {A B : Type 0} (g : Graph Label A) (h : Graph Label B) →
-    OfAnySize n t g → OfAnySize n t h → LeastOfAnySize n t g h (generalization (tableLabels n t) g h)
+    OfAnySize n t g → OfAnySize n t h → LeastOfAnySize n t g h (generalization (table_labels n t) g h)
 any-size-common-part-exists n t opens = generalization-least n t (opened-accepted n t (opened n t) refl opens)
 
 -- The theorems for graphs of any size, on any node types: g is below k, and h is below m.
 module _ (n : ℕ) (t : List ℕ) (opens : opened n t ≡ Accepted) {A B C D : Type 0} (g : Graph Label A) (k : Graph Label B) (h : Graph Label C)
     (m : Graph Label D) (g-size : OfAnySize n t g) (k-size : OfAnySize n t k) (h-size : OfAnySize n t h) (m-size : OfAnySize n t m)
-    (first : Below (tableLabels n t) g k) (second : Below (tableLabels n t) h m) where
+    (first : Below (table_labels n t) g k) (second : Below (table_labels n t) h m) where
   -- A combination of the narrower pair lies below every combination of the broader pair.
   pub any-size-combination : {U W : Type 0} (u : Graph Label U) (w : Graph Label W) → GreatestOfAnySize n t g h u → GreatestOfAnySize n t k m w →
-      Below (tableLabels n t) u w
+      Below (table_labels n t) u w
   any-size-combination = greatest-monotone n t (opened-accepted n t (opened n t) refl opens) g k h m g-size k-size h-size m-size first second
 
   -- Where the narrower pair has a combination and the nodes of the broader graphs can be told apart, the broader pair has a combination too,
   -- which the classes of paths give.
   pub any-size-combines : (sameB : B → B → Bool) (sameD : D → D → Bool) → TellsApart sameB → TellsApart sameD → {U : Type 0} (u : Graph Label U) →
       GreatestOfAnySize n t g h u →
-      (w : Graph Label (B ⊎ D)) × IsCombination n t k m w × GreatestOfAnySize n t k m w × Below (tableLabels n t) u w
+      (w : Graph Label (B ⊎ D)) × IsCombination n t k m w × GreatestOfAnySize n t k m w × Below (table_labels n t) u w
   any-size-combines = combines-broader n t (opened-accepted n t (opened n t) refl opens) g k h m g-size k-size h-size m-size first second
 
   -- For any node type, the non-existence of the broader pair's combination is contradictory.
@@ -92,5 +92,5 @@ module _ (n : ℕ) (t : List ℕ) (opens : opened n t ≡ Accepted) {A B C D : T
 
   -- The common part of the narrower pair lies below that of the broader pair.
   pub any-size-common-part : {U W : Type 0} (u : Graph Label U) (w : Graph Label W) → LeastOfAnySize n t g h u → LeastOfAnySize n t k m w →
-      Below (tableLabels n t) u w
+      Below (table_labels n t) u w
   any-size-common-part = least-monotone n t (opened-accepted n t (opened n t) refl opens) g k h m g-size k-size h-size m-size first second

@@ -10,9 +10,9 @@ use Rattle.graphs.specs.Rows.{Row}
 use Rattle.lattice.specs.Label.{Label}
 use Rattle.acceptance.specs.declared.Opened.TheVariants.{Accepted}
 use Rattle.acceptance.specs.Reply.{opened}
-use Rattle.lattice.specs.Labels.{tableLabels}
+use Rattle.lattice.specs.Labels.{table_labels}
 use Rattle.record.specs.declared.GraphFault.{GraphFault}
-use Rattle.record.specs.Read.{reading, accepted, graphOfRows}
+use Rattle.record.specs.Read.{reading, accepted, graph_of_rows}
 use Rattle.replies.specs.declared.Side.TheVariants.{First, Second}
 use Rattle.replies.specs.declared.Reply.TheVariants.{Length, Same, Under, Above, Neither, Graph as Refusal, NotBelow}
 use Rattle.calls.specs.Calls.{rewriting, ordering, differing}
@@ -23,23 +23,23 @@ use Rattle.demands.proofs.Demanded.Order as Order
 -- "Order shall tell one of four: same, under, above, neither, seen from the first graph": each is told exactly where it is true over paths.
 module _ (n : ℕ) (t a b : List ℕ) (s g : List (Row Label)) (given : Given n t a b s g) where
   pub order_same : (ordering n t a b ≡ Same) ↔
-      (Below (tableLabels n t) (graphOfRows s) (graphOfRows g) × Below (tableLabels n t) (graphOfRows g) (graphOfRows s))
+      (Below (table_labels n t) (graph_of_rows s) (graph_of_rows g) × Below (table_labels n t) (graph_of_rows g) (graph_of_rows s))
   order_same = Order.same-exact n t a b s g given
 
   pub order-under : (ordering n t a b ≡ Under) ↔
-      (Below (tableLabels n t) (graphOfRows s) (graphOfRows g) × (Below (tableLabels n t) (graphOfRows g) (graphOfRows s) → ⊥))
+      (Below (table_labels n t) (graph_of_rows s) (graph_of_rows g) × (Below (table_labels n t) (graph_of_rows g) (graph_of_rows s) → ⊥))
   order-under = Order.under-exact n t a b s g given
 
   pub order-above : (ordering n t a b ≡ Above) ↔
-      (Below (tableLabels n t) (graphOfRows g) (graphOfRows s) × (Below (tableLabels n t) (graphOfRows s) (graphOfRows g) → ⊥))
+      (Below (table_labels n t) (graph_of_rows g) (graph_of_rows s) × (Below (table_labels n t) (graph_of_rows s) (graph_of_rows g) → ⊥))
   order-above = Order.above-exact n t a b s g given
 
   pub order-neither : (ordering n t a b ≡ Neither) ↔
-      ((Below (tableLabels n t) (graphOfRows s) (graphOfRows g) → ⊥) × (Below (tableLabels n t) (graphOfRows g) (graphOfRows s) → ⊥))
+      ((Below (table_labels n t) (graph_of_rows s) (graph_of_rows g) → ⊥) × (Below (table_labels n t) (graph_of_rows g) (graph_of_rows s) → ⊥))
   order-neither = Order.neither-exact n t a b s g given
 
   -- Same is answered exactly where the records mean the same.
-  pub same-meaning : (ordering n t a b ≡ Same) ↔ SameMeaning (tableLabels n t) (graphOfRows s) (graphOfRows g)
+  pub same-meaning : (ordering n t a b ≡ Same) ↔ SameMeaning (table_labels n t) (graph_of_rows s) (graph_of_rows g)
   same-meaning = meaning-order n t a b s g given
 
   -- Same is answered exactly where the written records are equal bytes.

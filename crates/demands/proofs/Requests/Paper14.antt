@@ -12,7 +12,7 @@ use Rattle.graphs.specs.Rows.{Row}
 use Rattle.graphs.specs.Number.{canonical, written}
 use Rattle.acceptance.specs.declared.TableFault.{TableFault}
 use Rattle.acceptance.specs.declared.Opened.TheVariants.{Accepted, Refused}
-use Rattle.lattice.specs.Label.{Label, isFull}
+use Rattle.lattice.specs.Label.{Label, is_full}
 use Rattle.lattice.specs.Labels.{OfAnySize}
 use Rattle.acceptance.specs.Reply.{opened}
 use Rattle.lattice.proofs.Laws.{accepted-size}
@@ -20,11 +20,11 @@ use Rattle.acceptance.proofs.Acceptance.{opened-accepted}
 use Rattle.encoder.specs.Encode.{encoded}
 use Rattle.encode.specs.Encode.{fitted}
 use Rattle.record.specs.declared.GraphFault.{GraphFault}
-use Rattle.record.specs.Read.{reading, refused, accepted, graphOfRows}
+use Rattle.record.specs.Read.{reading, refused, accepted, graph_of_rows}
 use Rattle.replies.specs.declared.Side.TheVariants.{First}
 use Rattle.replies.specs.declared.Reply.TheVariants.{Length, End, Table, Graph as Refusal, FeatureCount, NotListed}
 use Rattle.replies.specs.Reply.{resulting, result_of, refusing}
-use Rattle.listed.specs.Listing.{precedes, Listed, LeastAbove, featuresBelow, unrangedRows, listing, calls}
+use Rattle.listed.specs.Listing.{precedes, Listed, LeastAbove, features_below, unranged_rows, listing, calls}
 use Rattle.listed.proofs.Order.{Ascends}
 use Rattle.listed.proofs.Stated.{Counts}
 use Rattle.listed.proofs.Theorems as Lists
@@ -35,8 +35,8 @@ use Rattle.listing.proofs.Theorems as Steps
 -- written form, and it has at most 3 nodes, features below F and no range.
 pub listed-words : (n F : ℕ) (t bytes : List ℕ) → Listed n F bytes ↔
     ((rows : List (Row Label)) × (reading n bytes ≡ accepted rows) ×
-    ((form : List (Row Label)) × (canonical eqb (graphOfRows rows) ≡ written form) × (bytes ≡ encoded form)) × (length rows ≤ 3) ×
-    (featuresBelow F rows ≡ true) × (unrangedRows rows ≡ true))
+    ((form : List (Row Label)) × (canonical eqb (graph_of_rows rows) ≡ written form) × (bytes ≡ encoded form)) × (length rows ≤ 3) ×
+    (features_below F rows ≡ true) × (unranged_rows rows ≡ true))
 listed-words = Steps.listed-exactly
 
 module _ (n : ℕ) (t : List ℕ) (opens : opened n t ≡ Accepted) (F : ℕ) (count : Counts F) where
@@ -94,13 +94,13 @@ module _ (n : ℕ) (t : List ℕ) (opens : opened n t ≡ Accepted) (F : ℕ) (c
   -- A graph of any size with at most three nodes, features below F and no range is the meaning of one listed record and no other.
   pub graph-comes-up : {A : Type 0} (same : A → A → Bool) → TellsApart same → (g : Graph Label A) → OfAnySize n t g →
       (nodes : List A) → ((v : A) → Reached g v → Memᴰ v nodes) → length nodes ≤ 3 →
-      ((v w : A) (f : ℕ) → Reached g v → g.link v f ≡ some w → f < F) → ((v : A) → Reached g v → isFull (g.label v) ≡ true) → Steps.OneListed n F t g
+      ((v w : A) (f : ℕ) → Reached g v → g.link v f ≡ some w → f < F) → ((v : A) → Reached g v → is_full (g.label v) ≡ true) → Steps.OneListed n F t g
   graph-comes-up same tells g any = Steps.graph-once n F t same tells g any size.1
 
   -- The graph of an accepted record with at most three nodes, features below F and no range, however it is numbered, is the meaning of one listed
   -- record and no other.
   pub record-comes-up : (bytes : List ℕ) (rows : List (Row Label)) → reading n bytes ≡ accepted rows → length rows ≤ 3 →
-      featuresBelow F rows ≡ true → unrangedRows rows ≡ true → Steps.OneListed n F t (graphOfRows rows)
+      features_below F rows ≡ true → unranged_rows rows ≡ true → Steps.OneListed n F t (graph_of_rows rows)
   record-comes-up = Steps.record-once n F t
 
 module _ (n : ℕ) (t : List ℕ) (F : ℕ) (bytes out : List ℕ) where

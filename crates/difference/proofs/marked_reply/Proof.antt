@@ -1,6 +1,6 @@
 -- `marked_reply` meets its contract, case by case.
 use mathlib.Core.Path.{sym, ◌∙◌, ap}
-use Rattle.difference.specs.Explained.{markedReply}
+use Rattle.difference.specs.Explained.{marked_reply}
 use borrow.Author.Rules.{rules}
 use Rattle.difference.proofs.marked_reply.Statement.{statement}
 use Rattle.difference.proofs.marked_reply.Tie as tie
@@ -15,7 +15,7 @@ enum_told : tie.Need-enum-told
 enum_told c = search rules
 
 returns : tie.Need-returns
-returns c = c.reply-of.ensures ∙ ap markedReply (sym c.before.before.marked.given.1)
+returns c = c.reply-of.ensures ∙ ap marked_reply (sym c.before.before.marked.given.1)
 
 returns-2 : tie.Need-returns-2
 returns-2 c = search rules

@@ -4,7 +4,7 @@ use Prim.Native.Nat.{◌-◌, ◌≤◌}
 use native.Mathlib.Omega.{arith}
 use borrow.Author.Rules.{rules}
 use lib.ListN.{take, length-set}
-use Rattle.encoder.specs.NumberedRows.{Visited, numberedRows}
+use Rattle.encoder.specs.NumberedRows.{Visited, numbered_rows}
 use Rattle.encoder.proofs.Lengths.{encoded-length}
 use Rattle.encoder.proofs.WrittenRows.{Progress, progress_start, progress-room, progress_step, progress-done, visited-small}
 use Rattle.encoder.proofs.encode.Statement.{statement}
@@ -20,7 +20,7 @@ cast-out : tie.Need-overflow-cast-out invariant-loop decreases-loop
 cast-out c = search rules
 
 slice-write-out : tie.Need-slice-write-out invariant-loop decreases-loop
-slice-write-out c = omega (arith, c.before.before.requires.1, encoded-length (numberedRows c.before.before.args.graph.now c.before.before.args.numbers.now (take c.before.before.args.count c.before.before.args.visited.now)))
+slice-write-out c = omega (arith, c.before.before.requires.1, encoded-length (numbered_rows c.before.before.args.graph.now c.before.before.args.numbers.now (take c.before.before.args.count c.before.before.args.visited.now)))
 
 loop-holds : tie.Need-loop-init invariant-loop decreases-loop
 loop-holds c = (c.before.before.requires.0, omega arith, progress_start c.before.before.args.graph.now c.before.before.args.numbers.now c.before.before.args.visited.now _)

@@ -6,7 +6,7 @@ use native.Mathlib.Omega.{arith}
 use borrow.Author.Rules.{rules}
 use lib.ListN.{get_or}
 use Rattle.layout.specs.Layout.{label_at}
-use Rattle.encoder.specs.NumberedRows.{rangeCount}
+use Rattle.encoder.specs.NumberedRows.{range_count}
 use Rattle.encoder.proofs.LabelBytes.{label-length}
 use Rattle.encoder.proofs.WrittenRows.{Summed, summed-start, summed-few, summed-step, summed-done, visited-node, visited-small}
 use Rattle.encoder.proofs.extent_of.Statement.{statement}
@@ -70,7 +70,7 @@ range-count-requires : tie.Need-range-count-requires invariant-loop decreases-lo
 range-count-requires c κs = search rules
 
 add-ranges : tie.Need-overflow-add-ranges invariant-loop decreases-loop
-add-ranges c = omega (arith, c.before.before.before.before.before.before.loop.invariant.visited.few, c.before.before.before.before.before.loop-test.true, summed-few c.before.before.before.before.before.before.loop.invariant, c.range-count.ensures ∙ ap rangeCount c.before.label-at.ensures, label-length (label_at c.before.before.before.before.before.before.before.before.args.graph.now (get_or c.before.before.before.before.before.before.before.before.args.visited.now c.before.before.before.before.before.before.loop.i 0)))
+add-ranges c = omega (arith, c.before.before.before.before.before.before.loop.invariant.visited.few, c.before.before.before.before.before.loop-test.true, summed-few c.before.before.before.before.before.before.loop.invariant, c.range-count.ensures ∙ ap range_count c.before.label-at.ensures, label-length (label_at c.before.before.before.before.before.before.before.before.args.graph.now (get_or c.before.before.before.before.before.before.before.before.args.visited.now c.before.before.before.before.before.before.loop.i 0)))
 
 add-i : tie.Need-overflow-add-i invariant-loop decreases-loop
 add-i c = omega (arith, c.before.before.before.before.before.before.loop.invariant.visited.few, c.before.before.before.before.before.loop-test.true)
@@ -79,7 +79,7 @@ loop-less : tie.Need-loop-smaller invariant-loop decreases-loop
 loop-less c = omega (arith, c.before.before.before.before.before.loop-test.true)
 
 loop-again : tie.Need-loop-preserved invariant-loop decreases-loop
-loop-again c = summed-step c.before.before.before.before.before.before.loop.invariant c.before.before.before.before.before.loop-test.true (omega (arith, c.before.before.shared-slice-known3.given (get_or c.before.before.before.before.before.before.before.before.args.visited.now c.before.before.before.before.before.before.loop.i 0 + 2))) (c.range-count.ensures ∙ ap rangeCount c.before.label-at.ensures)
+loop-again c = summed-step c.before.before.before.before.before.before.loop.invariant c.before.before.before.before.before.loop-test.true (omega (arith, c.before.before.shared-slice-known3.given (get_or c.before.before.before.before.before.before.before.before.args.visited.now c.before.before.before.before.before.before.loop.i 0 + 2))) (c.range-count.ensures ∙ ap range_count c.before.label-at.ensures)
 
 returns : tie.Need-returns invariant-loop decreases-loop
 returns c = summed-done c.before.loop.invariant c.loop-test.false

@@ -5,7 +5,7 @@ use native.Mathlib.Omega.{arith}
 use borrow.Author.Rules.{rules}
 use lib.ListN.{length-set}
 use Rattle.layout.specs.Builder.{stated}
-use Rattle.encoder.specs.Encode.{isFull}
+use Rattle.encoder.specs.Encode.{is_full}
 use Rattle.encoder.proofs.LabelBytes.{full-length, full-stored, ranged-length, ranged-stored}
 use Rattle.encoder.proofs.put_label.Statement.{statement}
 use Rattle.encoder.proofs.put_label.Tie as tie
@@ -30,7 +30,7 @@ same_length c = search rules
 returns : tie.Need-returns
 returns c =
     let start = c.before.before.before in
-    let full : isFull (stated start.args.label) ≡ true = sym c.before.is-full.ensures ∙ c.if1.true in
+    let full : is_full (stated start.args.label) ≡ true = sym c.before.is-full.ensures ∙ c.if1.true in
     (omega (arith, full-length (stated start.args.label) full), full-stored (stated start.args.label) start.args.out.now start.args.at full)
 
 add-out : tie.Need-overflow-add-out
@@ -75,7 +75,7 @@ same-length-2 c = search rules
 returns-2 : tie.Need-returns-2
 returns-2 c =
     let start = c.before.before.before.before in
-    let ranged : isFull (stated start.args.label) ≡ false = sym c.before.before.is-full.ensures ∙ c.before.if1.false in
+    let ranged : is_full (stated start.args.label) ≡ false = sym c.before.before.is-full.ensures ∙ c.before.if1.false in
     (omega (arith, ranged-length (stated start.args.label) ranged), ranged-stored (stated start.args.label) start.args.out.now start.args.at ranged)
 
 pub put-label-spec : {M : Type 1} → statement M

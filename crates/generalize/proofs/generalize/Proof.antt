@@ -4,10 +4,10 @@ use mathlib.Core.List.{List}
 use Prim.Native.Nat.{ℕ}
 use native.Mathlib.Omega.{arith}
 use lib.ListN.{length-replicate}
-use Rattle.bounds.specs.Sets.{joinIn}
+use Rattle.bounds.specs.Sets.{join_in}
 use Rattle.layout.proofs.Order.{directory}
 use borrow.Author.Rules.{rules}
-use Rattle.generalize.specs.Product.{productOut}
+use Rattle.generalize.specs.Product.{product_out}
 use Rattle.generalize.proofs.generalize.Statement.{statement}
 use Rattle.generalize.proofs.generalize.Tie as tie
 
@@ -60,7 +60,7 @@ same-length-3 : tie.Need-same-length-3
 same-length-3 c = search rules
 
 returns-3 : tie.Need-returns-3
-returns-3 c = let st = c.before.before.before.before.before.before.before.before.before.before.before.before.before.before.before.before.before.before in c.before.before.generalize-large2.ensures ∙ ap (λ (o : List ℕ). productOut (joinIn st.args.n st.args.sets.now st.args.cells.now) st.args.a.now st.args.b.now o) (c.before.before.before.before.before.before.before.before.before.generalize-in.ensures.too_few c.before.before.before.before.enum_told.given.1).0
+returns-3 c = let st = c.before.before.before.before.before.before.before.before.before.before.before.before.before.before.before.before.before.before in c.before.before.generalize-large2.ensures ∙ ap (λ (o : List ℕ). product_out (join_in st.args.n st.args.sets.now st.args.cells.now) st.args.a.now st.args.b.now o) (c.before.before.before.before.before.before.before.before.before.generalize-in.ensures.too_few c.before.before.before.before.enum_told.given.1).0
 
 pub generalize-spec : {M : Type 1} → statement M
 generalize-spec =

@@ -6,12 +6,12 @@ use native.Mathlib.Omega.{arith}
 use lib.ListN.{length, length-set, replicate, length-replicate, get_or-replicate}
 use Rattle.graphs.specs.Number.{Canonical}
 use Rattle.lattice.specs.Label.{Label}
-use Rattle.lattice.specs.Labels.{joinRanged}
-use Rattle.bounds.specs.Sets.{joinIn}
+use Rattle.lattice.specs.Labels.{join_ranged}
+use Rattle.bounds.specs.Sets.{join_in}
 use Rattle.layout.specs.Layout.{header}
-use Rattle.layout.specs.Builder.{putLabel}
+use Rattle.layout.specs.Builder.{put_label}
 use Rattle.layout.proofs.Builder.{length-put}
-use Rattle.encode.specs.Encode.{writtenOut}
+use Rattle.encode.specs.Encode.{written_out}
 use Rattle.generalize.proofs.Building.{Building, base, build-start, build-long, build-step}
 use Rattle.generalize.proofs.Result.{found-written, found-too-few, too_large, many-pairs, many-links, build-sound, build-canonical}
 use borrow.Author.Rules.{rules}
@@ -20,7 +20,7 @@ use Rattle.generalize.proofs.generalize_in.Tie as tie
 
 abbrev invariant-loop : tie.invariant-loop
 invariant-loop n sets cells a b words₀ out marks₀ queue₀ at₀ count₀ head₀ words marks queue at count head =
-    Building (joinIn n sets cells) a b head count at marks queue words × (at ≤ base + head * header + 2048) × (length words ≡ length words₀)
+    Building (join_in n sets cells) a b head count at marks queue words × (at ≤ base + head * header + 2048) × (length words ≡ length words₀)
 
 abbrev decreases-loop : tie.decreases-loop
 decreases-loop n sets cells a b words₀ out marks₀ queue₀ at₀ count₀ head₀ words marks queue at count head = 255 - head
@@ -35,7 +35,7 @@ slice-write-words : tie.Need-slice-write-words invariant-loop decreases-loop
 slice-write-words c = omega (arith, c.before.before.before.before.requires.1.1.1.1.0)
 
 loop-holds : tie.Need-loop-init invariant-loop decreases-loop
-loop-holds c = let st = c.before.before.before.before in (build-start (joinIn st.args.n st.args.sets.now st.args.cells.now) st.requires.0 st.requires.1.0 (st.args.n, st.requires.1.1.0) (replicate 65025 255) (replicate 255 0) st.args.words.now (length-replicate {A = ℕ} 65025 255) (λ p h. get_or-replicate {A = ℕ} 65025 p 255 0 h) (length-replicate {A = ℕ} 255 0) (get_or-replicate {A = ℕ} 255 0 0 0 (omega arith)) st.requires.1.1.1.1.0 st.requires.1.1.1.1.1, omega arith, refl)
+loop-holds c = let st = c.before.before.before.before in (build-start (join_in st.args.n st.args.sets.now st.args.cells.now) st.requires.0 st.requires.1.0 (st.args.n, st.requires.1.1.0) (replicate 65025 255) (replicate 255 0) st.args.words.now (length-replicate {A = ℕ} 65025 255) (λ p h. get_or-replicate {A = ℕ} 65025 p 255 0 h) (length-replicate {A = ℕ} 255 0) (get_or-replicate {A = ℕ} 255 0 0 0 (omega arith)) st.requires.1.1.1.1.0 st.requires.1.1.1.1.1, omega arith, refl)
 
 add-if1 : tie.Need-overflow-add-if1 invariant-loop decreases-loop
 add-if1 c = search rules
@@ -80,7 +80,7 @@ same-length-2 : tie.Need-same-length-2 invariant-loop decreases-loop
 same-length-2 c = c.before.before.before.pair-links.auto.1.1.1.1.1.1.0 ∙ ap length c.before.before.before.before.before.before.before.before.before.put-label.ensures ∙ length-put c.before.before.before.before.before.before.before.before.before.before.before.before.before.before.before.before.loop.words c.before.before.before.before.before.before.before.before.before.before.before.before.before.before.before.before.loop.at _ ∙ c.before.before.before.before.before.before.before.before.before.before.before.before.before.before.before.before.loop.invariant.2 ∙ length-set {A = ℕ} c.before.before.before.before.before.before.before.before.before.before.before.before.before.before.before.before.before.before.before.before.before.args.words.now 1 257
 
 returns-2 : tie.Need-returns-2 invariant-loop decreases-loop
-returns-2 c = let s = c.before.before.before.before.before.before.before.before.before.before.before.before.before.before.before.before.loop.invariant.0 in let st = c.before.before.before.before.before.before.before.before.before.before.before.before.before.before.before.before.before.before.before.before.before in found-written (sym (too_large (joinIn st.args.n st.args.sets.now st.args.cells.now) s.left s.right st.args.out.now (inl (many-pairs s c.before.before.before.before.before.before.before.before.before.before.before.before.before.before.before.loop-test.true (c.before.before.before.pair-links.ensures.full c.if2.true)))))
+returns-2 c = let s = c.before.before.before.before.before.before.before.before.before.before.before.before.before.before.before.before.loop.invariant.0 in let st = c.before.before.before.before.before.before.before.before.before.before.before.before.before.before.before.before.before.before.before.before.before in found-written (sym (too_large (join_in st.args.n st.args.sets.now st.args.cells.now) s.left s.right st.args.out.now (inl (many-pairs s c.before.before.before.before.before.before.before.before.before.before.before.before.before.before.before.loop-test.true (c.before.before.before.pair-links.ensures.full c.if2.true)))))
 
 cast-words-2 : tie.Need-overflow-cast-words-2 invariant-loop decreases-loop
 cast-words-2 c = omega (arith, (c.before.before.before.pair-links.ensures.added (omega (arith, c.if2.false))).short, c.before.before.before.before.before.before.before.before.before.before.before.before.before.before.before.loop-test.true, c.before.before.before.before.before.before.before.before.before.before.before.before.before.before.before.before.loop.invariant.0.marked.few, c.before.before.before.before.before.before.before.before.before.before.before.before.before.before.before.before.loop.invariant.1)
@@ -107,16 +107,16 @@ add-if3-2 : tie.Need-overflow-add-if3-2 invariant-loop decreases-loop
 add-if3-2 c = omega (arith, c.before.before.before.before.before.before.before.before.before.before.before.before.before.before.before.loop-test.true, c.before.before.before.before.before.before.before.before.before.before.before.before.before.before.before.before.loop.invariant.0.marked.few)
 
 same-length-3 : tie.Need-same-length-3 invariant-loop decreases-loop
-same-length-3 c = build-long c.before.before.before.before.before.before.before.before.before.before.before.before.before.before.before.before.before.loop.invariant.0 c.before.before.before.before.before.before.before.before.before.before.before.before.before.before.before.before.loop-test.true (omega (arith, c.before.before.before.before.before.before.before.before.before.before.before.before.before.before.before.if1.false)) _ refl _ (c.before.before.before.before.before.before.before.before.before.before.put-label.ensures ∙ ap (putLabel c.before.before.before.before.before.before.before.before.before.before.before.before.before.before.before.before.before.loop.words c.before.before.before.before.before.before.before.before.before.before.before.before.before.before.before.before.before.loop.at) (c.before.before.before.before.before.before.before.before.before.before.before.before.join.ensures ∙ ap₂ (joinRanged (joinIn c.before.before.before.before.before.before.before.before.before.before.before.before.before.before.before.before.before.before.before.before.before.before.args.n c.before.before.before.before.before.before.before.before.before.before.before.before.before.before.before.before.before.before.before.before.before.before.args.sets.now c.before.before.before.before.before.before.before.before.before.before.before.before.before.before.before.before.before.before.before.before.before.before.args.cells.now)) c.before.before.before.before.before.before.before.before.before.before.before.before.before.before.label-at.ensures c.before.before.before.before.before.before.before.before.before.before.before.before.before.label-at2.ensures)) _ _ _ _ (c.before.before.before.before.pair-links.ensures.added (omega (arith, c.before.if2.false))) ∙ c.before.before.before.before.before.before.before.before.before.before.before.before.before.before.before.before.before.loop.invariant.2 ∙ length-set {A = ℕ} c.before.before.before.before.before.before.before.before.before.before.before.before.before.before.before.before.before.before.before.before.before.before.args.words.now 1 257
+same-length-3 c = build-long c.before.before.before.before.before.before.before.before.before.before.before.before.before.before.before.before.before.loop.invariant.0 c.before.before.before.before.before.before.before.before.before.before.before.before.before.before.before.before.loop-test.true (omega (arith, c.before.before.before.before.before.before.before.before.before.before.before.before.before.before.before.if1.false)) _ refl _ (c.before.before.before.before.before.before.before.before.before.before.put-label.ensures ∙ ap (put_label c.before.before.before.before.before.before.before.before.before.before.before.before.before.before.before.before.before.loop.words c.before.before.before.before.before.before.before.before.before.before.before.before.before.before.before.before.before.loop.at) (c.before.before.before.before.before.before.before.before.before.before.before.before.join.ensures ∙ ap₂ (join_ranged (join_in c.before.before.before.before.before.before.before.before.before.before.before.before.before.before.before.before.before.before.before.before.before.before.args.n c.before.before.before.before.before.before.before.before.before.before.before.before.before.before.before.before.before.before.before.before.before.before.args.sets.now c.before.before.before.before.before.before.before.before.before.before.before.before.before.before.before.before.before.before.before.before.before.before.args.cells.now)) c.before.before.before.before.before.before.before.before.before.before.before.before.before.before.label-at.ensures c.before.before.before.before.before.before.before.before.before.before.before.before.before.label-at2.ensures)) _ _ _ _ (c.before.before.before.before.pair-links.ensures.added (omega (arith, c.before.if2.false))) ∙ c.before.before.before.before.before.before.before.before.before.before.before.before.before.before.before.before.before.loop.invariant.2 ∙ length-set {A = ℕ} c.before.before.before.before.before.before.before.before.before.before.before.before.before.before.before.before.before.before.before.before.before.before.args.words.now 1 257
 
 returns-3 : tie.Need-returns-3 invariant-loop decreases-loop
-returns-3 c = let s = c.before.before.before.before.before.before.before.before.before.before.before.before.before.before.before.before.before.loop.invariant.0 in let st = c.before.before.before.before.before.before.before.before.before.before.before.before.before.before.before.before.before.before.before.before.before.before in found-written (sym (too_large (joinIn st.args.n st.args.sets.now st.args.cells.now) s.left s.right st.args.out.now (inr (many-links (build-step c.before.before.before.before.before.before.before.before.before.before.before.before.before.before.before.before.before.loop.invariant.0 c.before.before.before.before.before.before.before.before.before.before.before.before.before.before.before.before.loop-test.true (omega (arith, c.before.before.before.before.before.before.before.before.before.before.before.before.before.before.before.if1.false)) _ refl _ (c.before.before.before.before.before.before.before.before.before.before.put-label.ensures ∙ ap (putLabel c.before.before.before.before.before.before.before.before.before.before.before.before.before.before.before.before.before.loop.words c.before.before.before.before.before.before.before.before.before.before.before.before.before.before.before.before.before.loop.at) (c.before.before.before.before.before.before.before.before.before.before.before.before.join.ensures ∙ ap₂ (joinRanged (joinIn c.before.before.before.before.before.before.before.before.before.before.before.before.before.before.before.before.before.before.before.before.before.before.args.n c.before.before.before.before.before.before.before.before.before.before.before.before.before.before.before.before.before.before.before.before.before.before.args.sets.now c.before.before.before.before.before.before.before.before.before.before.before.before.before.before.before.before.before.before.before.before.before.before.args.cells.now)) c.before.before.before.before.before.before.before.before.before.before.before.before.before.before.label-at.ensures c.before.before.before.before.before.before.before.before.before.before.before.before.before.label-at2.ensures)) _ _ _ _ (c.before.before.before.before.pair-links.ensures.added (omega (arith, c.before.if2.false)))) (omega (arith, c.if3.true))))))
+returns-3 c = let s = c.before.before.before.before.before.before.before.before.before.before.before.before.before.before.before.before.before.loop.invariant.0 in let st = c.before.before.before.before.before.before.before.before.before.before.before.before.before.before.before.before.before.before.before.before.before.before in found-written (sym (too_large (join_in st.args.n st.args.sets.now st.args.cells.now) s.left s.right st.args.out.now (inr (many-links (build-step c.before.before.before.before.before.before.before.before.before.before.before.before.before.before.before.before.before.loop.invariant.0 c.before.before.before.before.before.before.before.before.before.before.before.before.before.before.before.before.loop-test.true (omega (arith, c.before.before.before.before.before.before.before.before.before.before.before.before.before.before.before.if1.false)) _ refl _ (c.before.before.before.before.before.before.before.before.before.before.put-label.ensures ∙ ap (put_label c.before.before.before.before.before.before.before.before.before.before.before.before.before.before.before.before.before.loop.words c.before.before.before.before.before.before.before.before.before.before.before.before.before.before.before.before.before.loop.at) (c.before.before.before.before.before.before.before.before.before.before.before.before.join.ensures ∙ ap₂ (join_ranged (join_in c.before.before.before.before.before.before.before.before.before.before.before.before.before.before.before.before.before.before.before.before.before.before.args.n c.before.before.before.before.before.before.before.before.before.before.before.before.before.before.before.before.before.before.before.before.before.before.args.sets.now c.before.before.before.before.before.before.before.before.before.before.before.before.before.before.before.before.before.before.before.before.before.before.args.cells.now)) c.before.before.before.before.before.before.before.before.before.before.before.before.before.before.label-at.ensures c.before.before.before.before.before.before.before.before.before.before.before.before.before.label-at2.ensures)) _ _ _ _ (c.before.before.before.before.pair-links.ensures.added (omega (arith, c.before.if2.false)))) (omega (arith, c.if3.true))))))
 
 loop-less : tie.Need-loop-smaller invariant-loop decreases-loop
 loop-less c = omega (arith, c.before.before.before.before.before.before.before.before.before.before.before.before.before.before.before.before.loop-test.true, c.before.before.before.before.before.before.before.before.before.before.before.before.before.before.before.before.before.loop.invariant.0.marked.few)
 
 loop-again : tie.Need-loop-preserved invariant-loop decreases-loop
-loop-again c = (build-step c.before.before.before.before.before.before.before.before.before.before.before.before.before.before.before.before.before.loop.invariant.0 c.before.before.before.before.before.before.before.before.before.before.before.before.before.before.before.before.loop-test.true (omega (arith, c.before.before.before.before.before.before.before.before.before.before.before.before.before.before.before.if1.false)) _ refl _ (c.before.before.before.before.before.before.before.before.before.before.put-label.ensures ∙ ap (putLabel c.before.before.before.before.before.before.before.before.before.before.before.before.before.before.before.before.before.loop.words c.before.before.before.before.before.before.before.before.before.before.before.before.before.before.before.before.before.loop.at) (c.before.before.before.before.before.before.before.before.before.before.before.before.join.ensures ∙ ap₂ (joinRanged (joinIn c.before.before.before.before.before.before.before.before.before.before.before.before.before.before.before.before.before.before.before.before.before.before.args.n c.before.before.before.before.before.before.before.before.before.before.before.before.before.before.before.before.before.before.before.before.before.before.args.sets.now c.before.before.before.before.before.before.before.before.before.before.before.before.before.before.before.before.before.before.before.before.before.before.args.cells.now)) c.before.before.before.before.before.before.before.before.before.before.before.before.before.before.label-at.ensures c.before.before.before.before.before.before.before.before.before.before.before.before.before.label-at2.ensures)) _ _ _ _ (c.before.before.before.before.pair-links.ensures.added (omega (arith, c.before.if2.false))), omega (arith, c.if3.false), build-long c.before.before.before.before.before.before.before.before.before.before.before.before.before.before.before.before.before.loop.invariant.0 c.before.before.before.before.before.before.before.before.before.before.before.before.before.before.before.before.loop-test.true (omega (arith, c.before.before.before.before.before.before.before.before.before.before.before.before.before.before.before.if1.false)) _ refl _ (c.before.before.before.before.before.before.before.before.before.before.put-label.ensures ∙ ap (putLabel c.before.before.before.before.before.before.before.before.before.before.before.before.before.before.before.before.before.loop.words c.before.before.before.before.before.before.before.before.before.before.before.before.before.before.before.before.before.loop.at) (c.before.before.before.before.before.before.before.before.before.before.before.before.join.ensures ∙ ap₂ (joinRanged (joinIn c.before.before.before.before.before.before.before.before.before.before.before.before.before.before.before.before.before.before.before.before.before.before.args.n c.before.before.before.before.before.before.before.before.before.before.before.before.before.before.before.before.before.before.before.before.before.before.args.sets.now c.before.before.before.before.before.before.before.before.before.before.before.before.before.before.before.before.before.before.before.before.before.before.args.cells.now)) c.before.before.before.before.before.before.before.before.before.before.before.before.before.before.label-at.ensures c.before.before.before.before.before.before.before.before.before.before.before.before.before.label-at2.ensures)) _ _ _ _ (c.before.before.before.before.pair-links.ensures.added (omega (arith, c.before.if2.false))) ∙ c.before.before.before.before.before.before.before.before.before.before.before.before.before.before.before.before.before.loop.invariant.2)
+loop-again c = (build-step c.before.before.before.before.before.before.before.before.before.before.before.before.before.before.before.before.before.loop.invariant.0 c.before.before.before.before.before.before.before.before.before.before.before.before.before.before.before.before.loop-test.true (omega (arith, c.before.before.before.before.before.before.before.before.before.before.before.before.before.before.before.if1.false)) _ refl _ (c.before.before.before.before.before.before.before.before.before.before.put-label.ensures ∙ ap (put_label c.before.before.before.before.before.before.before.before.before.before.before.before.before.before.before.before.before.loop.words c.before.before.before.before.before.before.before.before.before.before.before.before.before.before.before.before.before.loop.at) (c.before.before.before.before.before.before.before.before.before.before.before.before.join.ensures ∙ ap₂ (join_ranged (join_in c.before.before.before.before.before.before.before.before.before.before.before.before.before.before.before.before.before.before.before.before.before.before.args.n c.before.before.before.before.before.before.before.before.before.before.before.before.before.before.before.before.before.before.before.before.before.before.args.sets.now c.before.before.before.before.before.before.before.before.before.before.before.before.before.before.before.before.before.before.before.before.before.before.args.cells.now)) c.before.before.before.before.before.before.before.before.before.before.before.before.before.before.label-at.ensures c.before.before.before.before.before.before.before.before.before.before.before.before.before.label-at2.ensures)) _ _ _ _ (c.before.before.before.before.pair-links.ensures.added (omega (arith, c.before.if2.false))), omega (arith, c.if3.false), build-long c.before.before.before.before.before.before.before.before.before.before.before.before.before.before.before.before.before.loop.invariant.0 c.before.before.before.before.before.before.before.before.before.before.before.before.before.before.before.before.loop-test.true (omega (arith, c.before.before.before.before.before.before.before.before.before.before.before.before.before.before.before.if1.false)) _ refl _ (c.before.before.before.before.before.before.before.before.before.before.put-label.ensures ∙ ap (put_label c.before.before.before.before.before.before.before.before.before.before.before.before.before.before.before.before.before.loop.words c.before.before.before.before.before.before.before.before.before.before.before.before.before.before.before.before.before.loop.at) (c.before.before.before.before.before.before.before.before.before.before.before.before.join.ensures ∙ ap₂ (join_ranged (join_in c.before.before.before.before.before.before.before.before.before.before.before.before.before.before.before.before.before.before.before.before.before.before.args.n c.before.before.before.before.before.before.before.before.before.before.before.before.before.before.before.before.before.before.before.before.before.before.args.sets.now c.before.before.before.before.before.before.before.before.before.before.before.before.before.before.before.before.before.before.before.before.before.before.args.cells.now)) c.before.before.before.before.before.before.before.before.before.before.before.before.before.before.label-at.ensures c.before.before.before.before.before.before.before.before.before.before.before.before.before.label-at2.ensures)) _ _ _ _ (c.before.before.before.before.pair-links.ensures.added (omega (arith, c.before.if2.false))) ∙ c.before.before.before.before.before.before.before.before.before.before.before.before.before.before.before.before.before.loop.invariant.2)
 
 cast-words-3 : tie.Need-overflow-cast-words-3 invariant-loop decreases-loop
 cast-words-3 c = omega (arith, c.before.loop.invariant.0.marked.few)
@@ -134,7 +134,7 @@ same-length-5 : tie.Need-same-length-5 invariant-loop decreases-loop
 same-length-5 c = search rules
 
 returns-4 : tie.Need-returns-4 invariant-loop decreases-loop
-returns-4 c = let e = sym (build-canonical c.before.before.before.before.before.before.loop.invariant.0 (omega (arith, c.before.before.before.before.before.loop-test.false))) in let out = c.before.before.before.before.before.before.before.before.before.before.before.args.out.now in found-written (c.before.before.write.ensures ∙ ap (λ (k : Canonical Label). writtenOut k out) e)
+returns-4 c = let e = sym (build-canonical c.before.before.before.before.before.before.loop.invariant.0 (omega (arith, c.before.before.before.before.before.loop-test.false))) in let out = c.before.before.before.before.before.before.before.before.before.before.before.args.out.now in found-written (c.before.before.write.ensures ∙ ap (λ (k : Canonical Label). written_out k out) e)
 
 pub generalize-in-spec : {M : Type 1} → statement M
 generalize-in-spec =

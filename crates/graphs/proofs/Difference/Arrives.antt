@@ -12,7 +12,7 @@ use Rattle.graphs.specs.Graph.{Graph, Below, follow, walk, Reached, Corefer}
 use Rattle.graphs.specs.Unify.{Joined, left, right, flip, chain, down}
 use Rattle.graphs.proofs.Walk.{some-injective, some-unique, snoc-induction, follow-last, walk-snoc}
 use Rattle.graphs.proofs.Unification.Related.{Related, roots, back, next, feat}
-use Rattle.graphs.proofs.Unification.Beside.{Leads, linkBeside, RelatedBeside, leads-nil, leads-step, leads-last, related-reached}
+use Rattle.graphs.proofs.Unification.Beside.{Leads, link_beside, RelatedBeside, leads-nil, leads-step, leads-last, related-reached}
 
 module _ {N : Type 0} (link : N → ℕ → Option N) (r s : N) where
   -- the path leads from the class of x to that of z
@@ -44,20 +44,20 @@ module _ {N : Type 0} (link : N → ℕ → Option N) (r s : N) where
 module _ {L A B : Type 0} (g : Graph L A) (h : Graph L B) where
   -- the path leads to the class of the node
   abbrev pub To : List ℕ → A ⊎ B → Type 0
-  To = Arrives (linkBeside g h) (inl g.root) (inr h.root) (inl g.root)
+  To = Arrives (link_beside g h) (inl g.root) (inr h.root) (inl g.root)
 
   root-related : RelatedBeside g h (inl g.root) (inl g.root)
   root-related = next roots (back roots)
 
   to-related : (p : List ℕ) (x y : A ⊎ B) → To p x → RelatedBeside g h x y → To p y
-  to-related = arrives-related (linkBeside g h) (inl g.root) (inr h.root) (inl g.root)
+  to-related = arrives-related (link_beside g h) (inl g.root) (inr h.root) (inl g.root)
 
-  to_step : (p : List ℕ) (f : ℕ) (x y : A ⊎ B) → To p x → linkBeside g h x f ≡ some y → To (p ++ (f ∷ [])) y
-  to_step = arrives-step (linkBeside g h) (inl g.root) (inr h.root) (inl g.root)
+  to_step : (p : List ℕ) (f : ℕ) (x y : A ⊎ B) → To p x → link_beside g h x f ≡ some y → To (p ++ (f ∷ [])) y
+  to_step = arrives-step (link_beside g h) (inl g.root) (inr h.root) (inl g.root)
 
   to_last : (p : List ℕ) (f : ℕ) (z : A ⊎ B) → To (p ++ (f ∷ [])) z →
-      (y : A ⊎ B) × (w : A ⊎ B) × To p y × (linkBeside g h y f ≡ some w) × RelatedBeside g h w z
-  to_last = arrives-last (linkBeside g h) (inl g.root) (inr h.root) (inl g.root)
+      (y : A ⊎ B) × (w : A ⊎ B) × To p y × (link_beside g h y f ≡ some w) × RelatedBeside g h w z
+  to_last = arrives-last (link_beside g h) (inl g.root) (inr h.root) (inl g.root)
 
   pub leads-to : (p : List ℕ) (x : A ⊎ B) → Leads g h p x → To p x
   leads-to = snoc-induction (λ p. (x : A ⊎ B) → Leads g h p x → To p x) (λ x e. start x (leads-nil g h x e)) more
@@ -73,7 +73,7 @@ module _ {L A B : Type 0} (g : Graph L A) (h : Graph L B) where
           to_step p f x y (ih x a) l
 
   to_one : (p : List ℕ) (x y : A ⊎ B) → To p x → To p y → RelatedBeside g h x y
-  to_one p x y = arrives-one (linkBeside g h) (inl g.root) (inr h.root) (inl g.root) (inl g.root) p x y root-related
+  to_one p x y = arrives-one (link_beside g h) (inl g.root) (inr h.root) (inl g.root) (inl g.root) p x y root-related
 
   pub joined_to : {p q : List ℕ} → Joined g h p q → (x : A ⊎ B) × To p x × To q x
   joined_to {p} {q} (left (v, a, b)) = (inl v, leads-to p (inl v) a, leads-to q (inl v) b)
@@ -99,7 +99,7 @@ module _ {L A B : Type 0} (g : Graph L A) (h : Graph L B) where
 
   -- The last feature of a path of the unification is a feature of some node that the path before leads to.
   pub joined-last : (p : List ℕ) (f : ℕ) → Joined g h (p ++ (f ∷ [])) (p ++ (f ∷ [])) →
-      (x : A ⊎ B) × (y : A ⊎ B) × To p x × (linkBeside g h x f ≡ some y)
+      (x : A ⊎ B) × (y : A ⊎ B) × To p x × (link_beside g h x f ≡ some y)
   joined-last p f j =
       let (z, c, _) = joined_to j in
       let (x, y, a, l, _) = to_last p f z c in
@@ -120,14 +120,14 @@ module _ {𝓛 : Labels} {A B C : Type 0} {g : Graph 𝓛.L A} {h : Graph 𝓛.L
   leads-lies p (inl x) a = let c = belowG.paths p x a in (c.0, c.1)
   leads-lies p (inr x) a = let c = belowH.paths p x a in (c.0, c.1)
 
-  pub lies-link : (x y : A ⊎ B) (f : ℕ) (u : C) → Lies g h s x u → linkBeside g h x f ≡ some y →
+  pub lies-link : (x y : A ⊎ B) (f : ℕ) (u : C) → Lies g h s x u → link_beside g h x f ≡ some y →
       (v : C) × (s.link u f ≡ some v) × Lies g h s y v
   lies-link x y f u (p, a, e) l =
       let b = leads-step g h p f x y a l in
       let (v, d) = leads-lies (p ++ (f ∷ [])) y b in
       (v, sym (walk-snoc s p f e) ∙ d, (p ++ (f ∷ []), b, d))
 
-  lies-source : (x y : A ⊎ B) (f : ℕ) (v : C) (p : List ℕ) → Leads g h p x → linkBeside g h x f ≡ some y → Lies g h s y v →
+  lies-source : (x y : A ⊎ B) (f : ℕ) (v : C) (p : List ℕ) → Leads g h p x → link_beside g h x f ≡ some y → Lies g h s y v →
       (u : C) × Lies g h s x u × (s.link u f ≡ some v)
   lies-source x y f v p a l b =
       let e = lies-path y v b (p ++ (f ∷ [])) (leads-step g h p f x y a l) in
@@ -150,7 +150,7 @@ module _ {𝓛 : Labels} {A B C : Type 0} {g : Graph 𝓛.L A} {h : Graph 𝓛.L
       let ((p, a), (q, b)) = related-reached g h c in
       (λ i. across x x' y y' k l p a (λ u. (related-lies c u).0) i, λ i. across y y' x x' l k q b (λ u. (related-lies c u).1) i)
     where
-      across : (x x' y y' : A ⊎ B) → linkBeside g h x f ≡ some x' → linkBeside g h y f ≡ some y' → (p : List ℕ) → Leads g h p x →
+      across : (x x' y y' : A ⊎ B) → link_beside g h x f ≡ some x' → link_beside g h y f ≡ some y' → (p : List ℕ) → Leads g h p x →
           ((u : C) → Lies g h s x u → Lies g h s y u) → Lies g h s x' v → Lies g h s y' v
       across x x' y y' k l p a ih i =
           let (u, j, e) = lies-source x x' f v p a k i in
@@ -159,7 +159,7 @@ module _ {𝓛 : Labels} {A B C : Type 0} {g : Graph 𝓛.L A} {h : Graph 𝓛.L
 
   -- the class that a path leads to lies over where it leads in s
   arrives-lies : (p : List ℕ) (x z : A ⊎ B) (u v : C) →
-      Arrives (linkBeside g h) (inl g.root) (inr h.root) x p z → Lies g h s x u →
+      Arrives (link_beside g h) (inl g.root) (inr h.root) x p z → Lies g h s x u →
       follow s.link (some u) p ≡ some v → Lies g h s z v
   unfolding follow
   arrives-lies [] x z u v a i e = (related-lies a v).0 (subst (Lies g h s x) (some-injective e) i)
@@ -175,7 +175,7 @@ module _ {𝓛 : Labels} {A B C : Type 0} {g : Graph 𝓛.L A} {h : Graph 𝓛.L
   -- link of s enter.
   pub related-within : (v : C) → (v ≡ s.root → ⊥) → (T : A ⊎ B → A ⊎ B → Type 0) → Equivalence T →
       ((u : C) (f : ℕ) (x x' y y' : A ⊎ B) → Lies g h s x u → Lies g h s y u → s.link u f ≡ some v →
-      linkBeside g h x f ≡ some x' → linkBeside g h y f ≡ some y' → T x' y') →
+      link_beside g h x f ≡ some x' → link_beside g h y f ≡ some y' → T x' y') →
       {x y : A ⊎ B} → RelatedBeside g h x y → Lies g h s x v → T x y
   unfolding follow
   related-within v inner T equal within roots i = absurd (inner (sym (some-injective (lies-path (inl g.root) v i [] refl))))
@@ -203,7 +203,7 @@ module _ {𝓛 : Labels} {A B C : Type 0} {g : Graph 𝓛.L A} {h : Graph 𝓛.L
       related-within v inner T equal within (joined-related g h (cover i.0 j.0 (v, i.2, j.2)) x y i.1 j.1) i
     where
       within : (u : C) (f : ℕ) (x x' y y' : A ⊎ B) → Lies g h s x u → Lies g h s y u → s.link u f ≡ some v →
-          linkBeside g h x f ≡ some x' → linkBeside g h y f ≡ some y' → T x' y'
+          link_beside g h x f ≡ some x' → link_beside g h y f ≡ some y' → T x' y'
       within u f (inl x) x' (inl y) y' i j e k l =
           let (z, a, p) = (map-eq-some_iff inl (g.link x f)).0 k in
           let (w, b, q) = (map-eq-some_iff inl (g.link y f)).0 l in
@@ -223,7 +223,7 @@ module _ {𝓛 : Labels} {A B C : Type 0} {g : Graph 𝓛.L A} {h : Graph 𝓛.L
 
   -- every link of s has a link of one of both graphs over it
   pub link-covered : ((p q : List ℕ) → Corefer s p q → Joined g h p q) → (u v : C) (f : ℕ) → Reached s u → s.link u f ≡ some v →
-      (x : A ⊎ B) × (y : A ⊎ B) × Lies g h s x u × (linkBeside g h x f ≡ some y)
+      (x : A ⊎ B) × (y : A ⊎ B) × Lies g h s x u × (link_beside g h x f ≡ some y)
   link-covered cover u v f (p, e) l =
       let d = walk-snoc s p f e ∙ l in
       let (x, y, a, k) = joined-last g h p f (cover (p ++ (f ∷ [])) (p ++ (f ∷ [])) (v, d, d)) in

@@ -7,16 +7,16 @@ use native.Mathlib.Decide.{dec_lt}
 use native.Mathlib.Omega.{arith}
 use lib.Dec.{leb, eqb}
 use borrow.Author.Tests.{leb-true, le-leb, eqb-true, eq-eqb}
-use Rattle.graphs.specs.Difference.{Link, StrictOrder, byNumber}
+use Rattle.graphs.specs.Difference.{Link, StrictOrder, by_number}
 use Rattle.graphs.proofs.Search.{both_true, true-both, either_true, true-left, true-right}
 
 -- l comes before m
 abbrev pub Before : Link ℕ → Link ℕ → Type 0
 Before l m = (l.0 < m.0) ⊎ ((l.0 ≡ m.0) × (l.1 < m.1))
 
-pub by_number : (l m : Link ℕ) → (byNumber l m ≡ true) ↔ Before l m
-unfolding byNumber
-by_number l m = (
+pub by_number_lem : (l m : Link ℕ) → (by_number l m ≡ true) ↔ Before l m
+unfolding by_number
+by_number_lem l m = (
   λ e.
       ⊎_elim (λ (a : leb (suc l.0) m.0 ≡ true). inl (leb-true (suc l.0) m.0 a))
       (λ (a : (eqb l.0 m.0 && leb (suc l.1) m.1) ≡ true).
@@ -56,21 +56,21 @@ before-total l m = go (dec_lt l.0 m.0) (dec_lt m.0 l.0) (dec_lt l.1 m.1) (dec_lt
         let q : l.1 ≡ m.1 = omega arith in
         inr (inr λ i. (p i, q i))
 
-pub by-number-order : StrictOrder byNumber
+pub by-number-order : StrictOrder by_number
 by-number-order =
     record {
       irreflexive = irreflexive;
-      transitive = λ l m n a b. (by_number l n).1 (before-trans l m n ((by_number l m).0 a) ((by_number m n).0 b));
+      transitive = λ l m n a b. (by_number_lem l n).1 (before-trans l m n ((by_number_lem l m).0 a) ((by_number_lem m n).0 b));
       total = λ l m.
-          ⊎_elim (λ (a : Before l m). inl ((by_number l m).1 a))
+          ⊎_elim (λ (a : Before l m). inl ((by_number_lem l m).1 a))
           (λ (a : Before m l ⊎ (l ≡ m)).
-          inr (⊎_elim (λ (b : Before m l). inl ((by_number m l).1 b)) (λ (b : l ≡ m). inr b) a))
+          inr (⊎_elim (λ (b : Before m l). inl ((by_number_lem m l).1 b)) (λ (b : l ≡ m). inr b) a))
           (before-total l m);
     }
   where
-    irreflexive : (l : Link ℕ) → byNumber l l ≡ false
-    irreflexive l = go (byNumber l l) refl
+    irreflexive : (l : Link ℕ) → by_number l l ≡ false
+    irreflexive l = go (by_number l l) refl
       where
-        go : (b : Bool) → byNumber l l ≡ b → byNumber l l ≡ false
-        go true e = absurd (before-irrefl l ((by_number l l).0 e))
+        go : (b : Bool) → by_number l l ≡ b → by_number l l ≡ false
+        go true e = absurd (before-irrefl l ((by_number_lem l l).0 e))
         go false e = e

@@ -8,8 +8,8 @@ use Prim.Native.Nat.{ℕ, zero, suc, ◌<◌}
 use native.Mathlib.Omega.{arith}
 use lib.Dec.{eqb}
 use borrow.Author.Tests.{eqb-true}
-use Rattle.graphs.specs.Difference.{Link, StrictOrder, byNumber, place_in, byReading}
-use Rattle.graphs.proofs.Difference.ByNumber.{Before, by_number, by-number-order}
+use Rattle.graphs.specs.Difference.{Link, StrictOrder, by_number, place_in, by_reading}
+use Rattle.graphs.proofs.Difference.ByNumber.{Before, by_number_lem, by-number-order}
 
 pub one_place : (list : List ℕ) (f h : ℕ) → place_in list f ≡ place_in list h → f ≡ h
 unfolding place_in
@@ -31,8 +31,8 @@ key list l = (place_in list l.1, l.0)
 abbrev pub BeforeIn : List ℕ → Link ℕ → Link ℕ → Type 0
 BeforeIn list l m = (place_in list l.1 < place_in list m.1) ⊎ ((l.1 ≡ m.1) × (l.0 < m.0))
 
-by_key : (list : List ℕ) (l m : Link ℕ) → byReading list l m ≡ byNumber (key list l) (key list m)
-unfolding byReading byNumber key
+by_key : (list : List ℕ) (l m : Link ℕ) → by_reading list l m ≡ by_number (key list l) (key list m)
+unfolding by_reading by_number key
 by_key list l m = refl
 
 key-before : (list : List ℕ) (l m : Link ℕ) → Before (key list l) (key list m) ↔ BeforeIn list l m
@@ -46,10 +46,10 @@ key-before list l m = (
       (λ (b : (l.1 ≡ m.1) × (l.0 < m.0)). inr (ap (place_in list) b.0, b.1)) a,
 )
 
-pub by-reading : (list : List ℕ) (l m : Link ℕ) → (byReading list l m ≡ true) ↔ BeforeIn list l m
+pub by-reading : (list : List ℕ) (l m : Link ℕ) → (by_reading list l m ≡ true) ↔ BeforeIn list l m
 by-reading list l m = (
-  λ e. (key-before list l m).0 ((by_number (key list l) (key list m)).0 (sym (by_key list l m) ∙ e)),
-  λ a. by_key list l m ∙ (by_number (key list l) (key list m)).1 ((key-before list l m).1 a),
+  λ e. (key-before list l m).0 ((by_number_lem (key list l) (key list m)).0 (sym (by_key list l m) ∙ e)),
+  λ a. by_key list l m ∙ (by_number_lem (key list l) (key list m)).1 ((key-before list l m).1 a),
 )
 
 one_key : (list : List ℕ) (l m : Link ℕ) → key list l ≡ key list m → l ≡ m
@@ -59,7 +59,7 @@ one_key list l m e =
     let q : l.1 ≡ m.1 = one_place list l.1 m.1 (ap (λ (k : Link ℕ). k.0) e) in
     λ i. (p i, q i)
 
-pub by-reading-order : (list : List ℕ) → StrictOrder (byReading list)
+pub by-reading-order : (list : List ℕ) → StrictOrder (by_reading list)
 by-reading-order list =
     record {
       irreflexive = λ l. by_key list l l ∙ by-number-order.irreflexive (key list l);
@@ -67,9 +67,9 @@ by-reading-order list =
           by_key list l n ∙
           by-number-order.transitive (key list l) (key list m) (key list n) (sym (by_key list l m) ∙ a) (sym (by_key list m n) ∙ b);
       total = λ l m.
-          ⊎_elim (λ (a : byNumber (key list l) (key list m) ≡ true). inl (by_key list l m ∙ a))
-          (λ (a : (byNumber (key list m) (key list l) ≡ true) ⊎ (key list l ≡ key list m)).
-          inr (⊎_elim (λ (b : byNumber (key list m) (key list l) ≡ true). inl (by_key list m l ∙ b))
+          ⊎_elim (λ (a : by_number (key list l) (key list m) ≡ true). inl (by_key list l m ∙ a))
+          (λ (a : (by_number (key list m) (key list l) ≡ true) ⊎ (key list l ≡ key list m)).
+          inr (⊎_elim (λ (b : by_number (key list m) (key list l) ≡ true). inl (by_key list m l ∙ b))
           (λ (b : key list l ≡ key list m). inr (one_key list l m b)) a))
           (by-number-order.total (key list l) (key list m));
     }

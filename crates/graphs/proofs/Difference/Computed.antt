@@ -10,7 +10,7 @@ use Rattle.graphs.specs.Label.{Labels, Lattice}
 use Rattle.graphs.specs.Graph.{Graph, AnySize, Below, SameMeaning, Reached}
 use Rattle.graphs.specs.Map.{NodeMap}
 use Rattle.graphs.specs.Unify.{IsUnification}
-use Rattle.graphs.specs.Difference.{Link, StrictOrder, IsWanted, meetOver, lead, keeps, keptLink, difference}
+use Rattle.graphs.specs.Difference.{Link, StrictOrder, IsWanted, meet_over, lead, keeps, kept_link, difference}
 use Rattle.graphs.proofs.Unification.Beside.{Operands}
 use Rattle.graphs.proofs.Difference.Laws.{DifferenceLaws}
 use Rattle.graphs.proofs.Difference.Kept.{below-difference}
@@ -37,7 +37,7 @@ module _ (𝓛 : Labels) {A B : Type 0} (sameA : A → A → Bool) (sameB : B �
     pub order : StrictOrder earlier
     pub sound : AnySize 𝓛 s
     pub map : NodeMap 𝓛 s g over
-    pub wants : (v : A) → Reached s v → IsWanted 𝓛 (meetOver 𝓛 sameA g gs over v) (s.label v) (wanted v)
+    pub wants : (v : A) → Reached s v → IsWanted 𝓛 (meet_over 𝓛 sameA g gs over v) (s.label v) (wanted v)
 
   module _ (set : Setting) where
     -- s with its nodes in the list given
@@ -54,7 +54,7 @@ module _ (𝓛 : Labels) {A B : Type 0} (sameA : A → A → Bool) (sameB : B �
     -- The computed difference keeps the laws.
     pub difference-laws : DifferenceLaws 𝓛 s g over (lead sameA sameB s ss g gs over earlier)
         (keeps sameA sameB s ss g gs over earlier (λ v. 𝓛.le 𝓛.top (wanted v)) (length ss)) wanted
-        (keptLink sameA sameB s ss g gs over earlier λ v. 𝓛.le 𝓛.top (wanted v))
+        (kept_link sameA sameB s ss g gs over earlier λ v. 𝓛.le 𝓛.top (wanted v))
     difference-laws =
         record {
           one-lead = lead-one set.operands set.map earlier set.order;

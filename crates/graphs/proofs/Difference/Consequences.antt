@@ -15,7 +15,7 @@ use Rattle.graphs.proofs.Below.{map_below, below-trans, below-antisym}
 use Rattle.graphs.proofs.Finite.{features-up, acyclic-up, consistent-up}
 use Rattle.graphs.proofs.Unification.Unifier.{unification-left, unification-right, unification-greatest}
 use Rattle.graphs.proofs.Search.{select-listed, select-length}
-use Rattle.graphs.proofs.Difference.Laws.{DifferenceLaws, withLinks}
+use Rattle.graphs.proofs.Difference.Laws.{DifferenceLaws, with_links}
 use Rattle.graphs.proofs.Difference.Kept.{kept-walk, kept-reached, reached-kept, below-difference}
 use Rattle.graphs.proofs.Difference.Restores.{restores-greatest}
 use Rattle.graphs.proofs.Difference.MostGeneral.{most-general}
@@ -25,7 +25,7 @@ module _ {𝓛 : Labels} {A B : Type 0} {s : Graph 𝓛.L A} {g : Graph 𝓛.L B
     (laws : DifferenceLaws 𝓛 s g over lead keep wanted kept)
     (lattice : Lattice 𝓛) (sound : AnySize 𝓛 s) (map : NodeMap 𝓛 s g over) where
   -- The unification of the difference and g means what s means.
-  pub laws-restore : {C : Type 0} {u : Graph 𝓛.L C} → IsUnification 𝓛 (withLinks s wanted kept) g u → SameMeaning 𝓛 u s
+  pub laws-restore : {C : Type 0} {u : Graph 𝓛.L C} → IsUnification 𝓛 (with_links s wanted kept) g u → SameMeaning 𝓛 u s
   laws-restore {u = u} is =
       below-antisym lattice
       (restores-greatest laws lattice sound map u (unification-left is) (unification-right is))
@@ -33,7 +33,7 @@ module _ {𝓛 : Labels} {A B : Type 0} {s : Graph 𝓛.L A} {g : Graph 𝓛.L B
 
   -- A graph above the difference whose unification with g lies below s lies below the difference.
   pub laws-most-general : (same : A → A → Bool) → TellsApart same → {E C : Type 0} (e : Graph 𝓛.L E) (u : Graph 𝓛.L C) →
-      Below 𝓛 (withLinks s wanted kept) e → IsUnification 𝓛 e g u → Below 𝓛 u s → Below 𝓛 e (withLinks s wanted kept)
+      Below 𝓛 (with_links s wanted kept) e → IsUnification 𝓛 e g u → Below 𝓛 u s → Below 𝓛 e (with_links s wanted kept)
   laws-most-general same tells e u above is below =
       most-general laws lattice sound map e above (λ p q c. (is.corefers p q).0 (below.corefers p q c)) labels same tells
     where
@@ -44,7 +44,7 @@ module _ {𝓛 : Labels} {A B : Type 0} {s : Graph 𝓛.L A} {g : Graph 𝓛.L B
 
   -- So what lies strictly above the difference restores strictly less than s.
   pub laws-nothing-more-general : (same : A → A → Bool) → TellsApart same → {E C : Type 0} (e : Graph 𝓛.L E) (u : Graph 𝓛.L C) →
-      Below 𝓛 (withLinks s wanted kept) e → (Below 𝓛 e (withLinks s wanted kept) → ⊥) → IsUnification 𝓛 e g u →
+      Below 𝓛 (with_links s wanted kept) e → (Below 𝓛 e (with_links s wanted kept) → ⊥) → IsUnification 𝓛 e g u →
       Below 𝓛 s u × (Below 𝓛 u s → ⊥)
   laws-nothing-more-general same tells e u above strict is = (
     unification-greatest (below-trans lattice (below-difference laws) above) (map_below map) is,
@@ -52,7 +52,7 @@ module _ {𝓛 : Labels} {A B : Type 0} {s : Graph 𝓛.L A} {g : Graph 𝓛.L B
   )
 
   -- The difference is a graph of any size, on the kept nodes of s.
-  unfoldable pub laws-any-size : AnySize 𝓛 (withLinks s wanted kept)
+  unfoldable pub laws-any-size : AnySize 𝓛 (with_links s wanted kept)
   laws-any-size =
       record {
         nodes = select keep sound.nodes;
@@ -74,6 +74,6 @@ module _ {𝓛 : Labels} {A B : Type 0} {s : Graph 𝓛.L A} {g : Graph 𝓛.L B
   unfolding laws-any-size
   laws-fewer-nodes = select-length keep sound.nodes
 
-  pub laws-links : (u v : A) (f : ℕ) → Reached (withLinks s wanted kept) u → kept u f ≡ some v →
+  pub laws-links : (u v : A) (f : ℕ) → Reached (with_links s wanted kept) u → kept u f ≡ some v →
       Reached s u × (s.link u f ≡ some v)
   laws-links u v f r e = let q = kept-reached laws u r in (q, ((laws.links u f v q).0 e).0.0.1)

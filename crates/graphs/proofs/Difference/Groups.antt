@@ -14,7 +14,7 @@ use lib.ListN.{length}
 use borrow.Author.Tests.{eqb-true, eq-eqb, not-true, not-false}
 use Rattle.graphs.specs.Graph.{Graph, TellsApart}
 use Rattle.graphs.specs.Unify.{any_of, holds}
-use Rattle.graphs.specs.Difference.{Link, select, linksFrom, sameLink, incoming, covers, bare, touch, spread}
+use Rattle.graphs.specs.Difference.{Link, select, links_from, same_link, incoming, covers, bare, touch, spread}
 use Rattle.graphs.specs.Relations.{Into}
 use Rattle.graphs.proofs.Walk.{reached-link}
 use Rattle.graphs.proofs.Search.{
@@ -26,32 +26,32 @@ use Rattle.graphs.proofs.Search.{
   true-right,
   holds-some,
   some_holds,
-  anyOf-true,
-  anyOf-finds,
+  any_of-true,
+  any_of-finds,
   select-listed,
   select-length,
   select-fewer-strict,
 }
-use Rattle.graphs.proofs.Difference.Links.{linksFrom-source, linksFrom-listed}
+use Rattle.graphs.proofs.Difference.Links.{links_from-source, links_from-listed}
 use Rattle.graphs.proofs.Unification.Beside.{Operands}
 use Rattle.graphs.proofs.Difference.Laws.{Enters}
 
 module _ {L A B : Type 0} {sameA : A → A → Bool} {sameB : B → B → Bool} {s : Graph L A} {ss : List A} {g : Graph L B}
     {gs : List B} (operands : Operands sameA sameB s ss g gs) (over : B → A) where
-  tellsA : TellsApart sameA
-  tellsA = operands.tells-left
+  tells_a : TellsApart sameA
+  tells_a = operands.tells-left
 
-  tellsB : TellsApart sameB
-  tellsB = operands.tells-right
+  tells_b : TellsApart sameB
+  tells_b = operands.tells-right
 
   abbrev same : Link A → Link A → Bool
-  same l m = sameLink sameA sameB s ss g gs over l m
+  same l m = same_link sameA sameB s ss g gs over l m
 
   abbrev entering : A → List (Link A)
   entering v = incoming sameA sameB s ss g gs over v
 
-  abbrev coversOver : B → Link A → Bool
-  coversOver z l = covers sameA sameB s ss g gs over z l
+  abbrev covers_over : B → Link A → Bool
+  covers_over z l = covers sameA sameB s ss g gs over z l
 
   abbrev is_bare : Link A → Bool
   is_bare l = bare sameA sameB s ss g gs over l
@@ -67,9 +67,9 @@ module _ {L A B : Type 0} {sameA : A → A → Bool} {sameB : B → B → Bool} 
   same-link l m = (
     λ e.
         let (a, b) = both_true (sameA l.0 m.0) (eqb l.1 m.1) e in
-        λ i. ((tellsA l.0 m.0).0 a i, eqb-true l.1 m.1 b i),
+        λ i. ((tells_a l.0 m.0).0 a i, eqb-true l.1 m.1 b i),
     λ e.
-        true-both (sameA l.0 m.0) (eqb l.1 m.1) ((tellsA l.0 m.0).1 (fst_path e))
+        true-both (sameA l.0 m.0) (eqb l.1 m.1) ((tells_a l.0 m.0).1 (fst_path e))
         (eq-eqb l.1 m.1 (snd_path e)),
   )
 
@@ -80,8 +80,8 @@ module _ {L A B : Type 0} {sameA : A → A → Bool} {sameB : B → B → Bool} 
   inside-listed : (group : List (Link A)) (m : Link A) → (inside group m ≡ true) ↔ Memᴰ m group
   unfolding inside
   inside-listed group m = (
-    λ e. let (l, i, a) = anyOf-true (λ l. same l m) group e in Memᴰ.cast (sym ((same-link l m).0 a)) i,
-    λ i. anyOf-finds (λ l. same l m) group m i ((same-link m m).1 refl),
+    λ e. let (l, i, a) = any_of-true (λ l. same l m) group e in Memᴰ.cast (sym ((same-link l m).0 a)) i,
+    λ i. any_of-finds (λ l. same l m) group m i ((same-link m m).1 refl),
   )
 
   -- m is in the group or touches it
@@ -91,7 +91,7 @@ module _ {L A B : Type 0} {sameA : A → A → Bool} {sameB : B → B → Bool} 
   joins_true : (group : List (Link A)) (m : Link A) → joins group m ≡ true →
       (l : Link A) × Memᴰ l group × ((l ≡ m) ⊎ (touches l m ≡ true))
   joins_true group m e =
-      let (l, i, a) = anyOf-true (λ l. same l m || touches l m) group e in (
+      let (l, i, a) = any_of-true (λ l. same l m || touches l m) group e in (
         l,
         i,
         ⊎_elim (λ (b : same l m ≡ true). inl ((same-link l m).0 b))
@@ -100,12 +100,12 @@ module _ {L A B : Type 0} {sameA : A → A → Bool} {sameB : B → B → Bool} 
 
   joins-listed : (group : List (Link A)) (m : Link A) → Memᴰ m group → joins group m ≡ true
   joins-listed group m i =
-      anyOf-finds (λ l. same l m || touches l m) group m i
+      any_of-finds (λ l. same l m || touches l m) group m i
       (true-left (same m m) (touches m m) ((same-link m m).1 refl))
 
   joins-touch : (group : List (Link A)) (l m : Link A) → Memᴰ l group → touches l m ≡ true → joins group m ≡ true
   joins-touch group l m i e =
-      anyOf-finds (λ l. same l m || touches l m) group l i
+      any_of-finds (λ l. same l m || touches l m) group l i
       (true-right (same l m) (touches l m) e)
 
   -- Rounds.
@@ -162,7 +162,7 @@ module _ {L A B : Type 0} {sameA : A → A → Bool} {sameB : B → B → Bool} 
     fresh-more : (group : List (Link A)) → any_of links (fresh group) ≡ true → count group < count (grown group)
     unfolding fresh count
     fresh-more group e =
-        let (m, i, a) = anyOf-true (fresh group) links e in
+        let (m, i, a) = any_of-true (fresh group) links e in
         let (b, c) = both_true (joins group m) (not (inside group m)) a in
         select-fewer-strict (inside group) (inside (grown group)) links
         (λ x j d. (inside-listed (grown group) x).1 (grown-listed group x j ((inside-listed group x).0 d)))
@@ -176,7 +176,7 @@ module _ {L A B : Type 0} {sameA : A → A → Bool} {sameB : B → B → Bool} 
         go true b = (inside-listed group m).0 b
         go false b =
             true-false
-            (anyOf-finds (fresh group) links m j
+            (any_of-finds (fresh group) links m j
             (true-both (joins group m) (not (inside group m)) (joins-touch group l m i a) (ap not b))) e
 
     count-all : (group : List (Link A)) → length links ≤ count group → Closed group
@@ -204,23 +204,23 @@ module _ {L A B : Type 0} {sameA : A → A → Bool} {sameB : B → B → Bool} 
 
   -- What the tests say.
 
-  pub covers-enters : (z : B) (l : Link A) → (coversOver z l ≡ true) ↔ Enters g over z l
+  pub covers-enters : (z : B) (l : Link A) → (covers_over z l ≡ true) ↔ Enters g over z l
   unfolding covers
   covers-enters z l = (there, back)
     where
-      there : coversOver z l ≡ true → Enters g over z l
+      there : covers_over z l ≡ true → Enters g over z l
       there e =
-          let (y, i, a) = anyOf-true (λ y. sameA (over y) l.0 && holds (sameB z) (g.link y l.1)) gs e in
+          let (y, i, a) = any_of-true (λ y. sameA (over y) l.0 && holds (sameB z) (g.link y l.1)) gs e in
           let (b, c) = both_true (sameA (over y) l.0) (holds (sameB z) (g.link y l.1)) a in
           let (x, d, f) = holds-some (sameB z) (g.link y l.1) c in
-          (y, (operands.lists-right.listed y).1 i, (tellsA (over y) l.0).0 b, d ∙ ap some (sym ((tellsB z x).0 f)))
+          (y, (operands.lists-right.listed y).1 i, (tells_a (over y) l.0).0 b, d ∙ ap some (sym ((tells_b z x).0 f)))
 
-      back : Enters g over z l → coversOver z l ≡ true
+      back : Enters g over z l → covers_over z l ≡ true
       back (y, r, o, e) =
-          anyOf-finds (λ y. sameA (over y) l.0 && holds (sameB z) (g.link y l.1)) gs y
+          any_of-finds (λ y. sameA (over y) l.0 && holds (sameB z) (g.link y l.1)) gs y
           ((operands.lists-right.listed y).0 r)
-          (true-both (sameA (over y) l.0) (holds (sameB z) (g.link y l.1)) ((tellsA (over y) l.0).1 o)
-          (some_holds (sameB z) (g.link y l.1) z e ((tellsB z z).1 refl)))
+          (true-both (sameA (over y) l.0) (holds (sameB z) (g.link y l.1)) ((tells_a (over y) l.0).1 o)
+          (some_holds (sameB z) (g.link y l.1) z e ((tells_b z z).1 refl)))
 
   enters-listed : (z : B) (l : Link A) → Enters g over z l → Memᴰ z gs
   enters-listed z l (y, r, _, e) = (operands.lists-right.listed z).0 (reached-link g l.1 r e)
@@ -229,13 +229,13 @@ module _ {L A B : Type 0} {sameA : A → A → Bool} {sameB : B → B → Bool} 
   unfolding bare
   bare-enters l e z t =
       true-false
-      (anyOf-finds (λ z. coversOver z l) gs z (enters-listed z l t) ((covers-enters z l).1 t))
-      (not-true (any_of gs λ z. coversOver z l) e)
+      (any_of-finds (λ z. covers_over z l) gs z (enters-listed z l t) ((covers-enters z l).1 t))
+      (not-true (any_of gs λ z. covers_over z l) e)
 
   pub not-bare-enters : (l : Link A) → is_bare l ≡ false → (z : B) × Enters g over z l
   unfolding bare
   not-bare-enters l e =
-      let (z, _, a) = anyOf-true (λ z. coversOver z l) gs (not-false (any_of gs λ z. coversOver z l) e) in
+      let (z, _, a) = any_of-true (λ z. covers_over z l) gs (not-false (any_of gs λ z. covers_over z l) e) in
       (z, (covers-enters z l).0 a)
 
   pub touch-enters : (l m : Link A) → (touches l m ≡ true) ↔ ((z : B) × Enters g over z l × Enters g over z m)
@@ -244,14 +244,14 @@ module _ {L A B : Type 0} {sameA : A → A → Bool} {sameB : B → B → Bool} 
     where
       there : touches l m ≡ true → (z : B) × Enters g over z l × Enters g over z m
       there e =
-          let (z, _, a) = anyOf-true (λ z. coversOver z l && coversOver z m) gs e in
-          let (b, c) = both_true (coversOver z l) (coversOver z m) a in
+          let (z, _, a) = any_of-true (λ z. covers_over z l && covers_over z m) gs e in
+          let (b, c) = both_true (covers_over z l) (covers_over z m) a in
           (z, (covers-enters z l).0 b, (covers-enters z m).0 c)
 
       back : (z : B) × Enters g over z l × Enters g over z m → touches l m ≡ true
       back (z, a, b) =
-          anyOf-finds (λ z. coversOver z l && coversOver z m) gs z (enters-listed z l a)
-          (true-both (coversOver z l) (coversOver z m) ((covers-enters z l).1 a) ((covers-enters z m).1 b))
+          any_of-finds (λ z. covers_over z l && covers_over z m) gs z (enters-listed z l a)
+          (true-both (covers_over z l) (covers_over z m) ((covers-enters z l).1 a) ((covers-enters z m).1 b))
 
   pub incoming-into : (v : A) (l : Link A) → Memᴰ l (entering v) ↔ Into s v l
   unfolding incoming
@@ -259,13 +259,13 @@ module _ {L A B : Type 0} {sameA : A → A → Bool} {sameB : B → B → Bool} 
     where
       there : Memᴰ l (entering v) → Into s v l
       there i =
-          let (j, a) = (select-listed (λ l. holds (sameA v) (s.link l.0 l.1)) (linksFrom ss) l).0 i in
+          let (j, a) = (select-listed (λ l. holds (sameA v) (s.link l.0 l.1)) (links_from ss) l).0 i in
           let (w, b, c) = holds-some (sameA v) (s.link l.0 l.1) a in
-          ((operands.lists-left.listed l.0).1 (linksFrom-source ss l j), b ∙ ap some (sym ((tellsA v w).0 c)))
+          ((operands.lists-left.listed l.0).1 (links_from-source ss l j), b ∙ ap some (sym ((tells_a v w).0 c)))
 
       back : Into s v l → Memᴰ l (entering v)
       back (r, e) =
-          (select-listed (λ l. holds (sameA v) (s.link l.0 l.1)) (linksFrom ss) l).1 (
-            linksFrom-listed ss l ((operands.lists-left.listed l.0).0 r) (operands.lists-left.features l.0 v l.1 r e),
-            some_holds (sameA v) (s.link l.0 l.1) v e ((tellsA v v).1 refl),
+          (select-listed (λ l. holds (sameA v) (s.link l.0 l.1)) (links_from ss) l).1 (
+            links_from-listed ss l ((operands.lists-left.listed l.0).0 r) (operands.lists-left.features l.0 v l.1 r e),
+            some_holds (sameA v) (s.link l.0 l.1) v e ((tells_a v v).1 refl),
           )

@@ -14,7 +14,7 @@ use Rattle.graphs.specs.Relations.{Into, LiesOver, LinkOver, Grouped, itself, to
 use Rattle.graphs.proofs.Walk.{some-injective, some-unique, snoc-induction, follow-last, reached-root, reached-link, walk-snoc}
 use Rattle.graphs.proofs.Below.{walk-map, map_below}
 use Rattle.graphs.proofs.Difference.Induct.{parents-first}
-use Rattle.graphs.proofs.Difference.Laws.{Leader, Enters, DifferenceLaws, withLinks}
+use Rattle.graphs.proofs.Difference.Laws.{Leader, Enters, DifferenceLaws, with_links}
 
 module _ {L A : Type 0} (s : Graph L A) where
   -- a path is empty, or its last link enters where it leads
@@ -101,30 +101,30 @@ module _ {𝓛 : Labels} {A B : Type 0} {s : Graph 𝓛.L A} {g : Graph 𝓛.L B
     where
       go : (b : Bool) → keep l.0 ≡ b → keep l.0 ≡ true
       go true e = e
-      go false e = absurd (true≢false (sym k ∙ (laws.idle l.0 m.0.0 e).noneBelow l.1 v m))
+      go false e = absurd (true≢false (sym k ∙ (laws.idle l.0 m.0.0 e).none_below l.1 v m))
 
   -- paths of the difference are paths of s, and lead to kept nodes
-  pub kept-walk : (p : List ℕ) (v : A) → walk (withLinks s wanted kept) p ≡ some v → (walk s p ≡ some v) × (keep v ≡ true)
+  pub kept-walk : (p : List ℕ) (v : A) → walk (with_links s wanted kept) p ≡ some v → (walk s p ≡ some v) × (keep v ≡ true)
   unfolding follow
   kept-walk =
-      snoc-induction (λ p. (v : A) → walk (withLinks s wanted kept) p ≡ some v → (walk s p ≡ some v) × (keep v ≡ true)) base more
+      snoc-induction (λ p. (v : A) → walk (with_links s wanted kept) p ≡ some v → (walk s p ≡ some v) × (keep v ≡ true)) base more
     where
-      base : (v : A) → walk (withLinks s wanted kept) [] ≡ some v → (walk s [] ≡ some v) × (keep v ≡ true)
+      base : (v : A) → walk (with_links s wanted kept) [] ≡ some v → (walk s [] ≡ some v) × (keep v ≡ true)
       base v e = (e, ap keep (sym (some-injective e)) ∙ laws.root_kept)
 
       more : (p : List ℕ) (f : ℕ) →
-          ((v : A) → walk (withLinks s wanted kept) p ≡ some v → (walk s p ≡ some v) × (keep v ≡ true)) →
-          (v : A) → walk (withLinks s wanted kept) (p ++ (f ∷ [])) ≡ some v → (walk s (p ++ (f ∷ [])) ≡ some v) × (keep v ≡ true)
+          ((v : A) → walk (with_links s wanted kept) p ≡ some v → (walk s p ≡ some v) × (keep v ≡ true)) →
+          (v : A) → walk (with_links s wanted kept) (p ++ (f ∷ [])) ≡ some v → (walk s (p ++ (f ∷ [])) ≡ some v) × (keep v ≡ true)
       more p f ih v e =
           let l = follow-last kept (some s.root) p f v e in
           let w = (ih l.0 l.1).0 in
           let m = (laws.links l.0 f v (p, w)).0 l.2 in
           (walk-snoc s p f w ∙ m.0.0.1, m.1)
 
-  pub kept-reached : (v : A) → Reached (withLinks s wanted kept) v → Reached s v
+  pub kept-reached : (v : A) → Reached (with_links s wanted kept) v → Reached s v
   kept-reached v r = (r.0, (kept-walk r.0 v r.1).0)
 
-  pub below-difference : Below 𝓛 s (withLinks s wanted kept)
+  pub below-difference : Below 𝓛 s (with_links s wanted kept)
   below-difference = map_below {to = λ v. v} (record {
     root = refl;
     links = λ v w f r e. ((laws.links v f w (kept-reached v r)).0 e).0.0.1;
@@ -132,22 +132,22 @@ module _ {𝓛 : Labels} {A B : Type 0} {s : Graph 𝓛.L A} {g : Graph 𝓛.L B
   })
 
   -- every kept node is reached in the difference
-  pub reached-kept : AnySize 𝓛 s → (v : A) → Reached s v → keep v ≡ true → Reached (withLinks s wanted kept) v
-  reached-kept sound = parents-first sound (λ v. keep v ≡ true → Reached (withLinks s wanted kept) v) next
+  pub reached-kept : AnySize 𝓛 s → (v : A) → Reached s v → keep v ≡ true → Reached (with_links s wanted kept) v
+  reached-kept sound = parents-first sound (λ v. keep v ≡ true → Reached (with_links s wanted kept) v) next
     where
       next : (v : A) → Reached s v →
-          ((u : A) (f : ℕ) → Reached s u → s.link u f ≡ some v → keep u ≡ true → Reached (withLinks s wanted kept) u) →
-          keep v ≡ true → Reached (withLinks s wanted kept) v
-      next v r ih k = ⊎_elim atRoot fromLink (entered s v r)
+          ((u : A) (f : ℕ) → Reached s u → s.link u f ≡ some v → keep u ≡ true → Reached (with_links s wanted kept) u) →
+          keep v ≡ true → Reached (with_links s wanted kept) v
+      next v r ih k = ⊎_elim at_root from_link (entered s v r)
         where
-          atRoot : v ≡ s.root → Reached (withLinks s wanted kept) v
-          atRoot e = subst (λ x. Reached (withLinks s wanted kept) x) (sym e) (reached-root (withLinks s wanted kept))
+          at_root : v ≡ s.root → Reached (with_links s wanted kept) v
+          at_root e = subst (λ x. Reached (with_links s wanted kept) x) (sym e) (reached-root (with_links s wanted kept))
 
-          fromLink : (l : Link A) × Into s v l → Reached (withLinks s wanted kept) v
-          fromLink (l, i) =
+          from_link : (l : Link A) × Into s v l → Reached (with_links s wanted kept) v
+          from_link (l, i) =
               let m = laws.leads v l i in
               let u = (lead v l).0 in
               let f = (lead v l).1 in
-              reached-link (withLinks s wanted kept) f
+              reached-link (with_links s wanted kept) f
               (ih u f m.0.0 m.0.1 (source-kept v (lead v l) m k))
               ((laws.links u f v m.0.0).1 (m, k))

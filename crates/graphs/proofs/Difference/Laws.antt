@@ -27,18 +27,18 @@ module _ (𝓛 : Labels) {A B : Type 0} (s : Graph 𝓛.L A) (g : Graph 𝓛.L B
     (lead : A → Link A → Link A) (keep : A → Bool) (wanted : A → 𝓛.L) where
   -- why a node is kept
   pub data Reason (v : A) : Type 0 where
-    atRoot : v ≡ s.root → Reason v
-    twoGroups : (l m : Link A) → Leader s lead v l → Leader s lead v m → (l ≡ m → ⊥) → Reason v
-    bareGroup : (l : Link A) → Leader s lead v l → ((z : B) → Enters g over z l → ⊥) → Reason v
-    ownLabel : 𝓛.le 𝓛.top (wanted v) ≡ false → Reason v
-    keptBelow : (f : ℕ) (w : A) → Leader s lead w (v, f) → keep w ≡ true → Reason v
+    at_root : v ≡ s.root → Reason v
+    two_groups : (l m : Link A) → Leader s lead v l → Leader s lead v m → (l ≡ m → ⊥) → Reason v
+    bare_group : (l : Link A) → Leader s lead v l → ((z : B) → Enters g over z l → ⊥) → Reason v
+    own_label : 𝓛.le 𝓛.top (wanted v) ≡ false → Reason v
+    kept_below : (f : ℕ) (w : A) → Leader s lead w (v, f) → keep w ≡ true → Reason v
 
   -- what is known of a node that is not kept
   pub record Idle (v : A) : Type 0 where
-    pub oneGroup : (l m : Link A) → Leader s lead v l → Leader s lead v m → l ≡ m
+    pub one_group : (l m : Link A) → Leader s lead v l → Leader s lead v m → l ≡ m
     pub covered : (l : Link A) → Leader s lead v l → (z : B) × Enters g over z l
     pub no_label : 𝓛.le 𝓛.top (wanted v) ≡ true
-    pub noneBelow : (f : ℕ) (w : A) → Leader s lead w (v, f) → keep w ≡ false
+    pub none_below : (f : ℕ) (w : A) → Leader s lead w (v, f) → keep w ≡ false
 
   -- The laws of the graph with the links `kept`.
   pub record DifferenceLaws (kept : A → ℕ → Option A) : Type 0 where
@@ -58,5 +58,5 @@ module _ (𝓛 : Labels) {A B : Type 0} (s : Graph 𝓛.L A) (g : Graph 𝓛.L B
         ((a : 𝓛.L) → 𝓛.le a c ≡ true → UnderOver 𝓛 g over v a → 𝓛.le a (s.label v) ≡ true) → 𝓛.le c (wanted v) ≡ true
 
 -- the graph on the nodes of s with the links kept
-abbrev pub withLinks : {L A : Type 0} → Graph L A → (A → L) → (A → ℕ → Option A) → Graph L A
-withLinks s wanted kept = record { root = s.root; label = wanted; link = kept }
+abbrev pub with_links : {L A : Type 0} → Graph L A → (A → L) → (A → ℕ → Option A) → Graph L A
+with_links s wanted kept = record { root = s.root; label = wanted; link = kept }

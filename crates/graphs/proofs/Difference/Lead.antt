@@ -21,7 +21,7 @@ use Rattle.graphs.proofs.Walk.{some-unique}
 use Rattle.graphs.proofs.Unification.Beside.{Operands}
 use Rattle.graphs.proofs.Difference.Laws.{Leader, Enters}
 use Rattle.graphs.proofs.Difference.Kept.{enters-into, grouped-into, grouped-flip, link-over, enters-at, enters-grouped}
-use Rattle.graphs.proofs.Difference.Least.{earlier-one, leastOf-listed, leastOf-least, leastOf-one}
+use Rattle.graphs.proofs.Difference.Least.{earlier-one, least_of-listed, least_of-least, least_of-one}
 use Rattle.graphs.proofs.Difference.Groups.{Closed, spread-closed, spread-keeps, spread-within, touch-enters, incoming-into}
 
 module _ {𝓛 : Labels} {A B : Type 0} {sameA : A → A → Bool} {sameB : B → B → Bool} {s : Graph 𝓛.L A} {ss : List A}
@@ -80,7 +80,7 @@ module _ {𝓛 : Labels} {A B : Type 0} {sameA : A → A → Bool} {sameB : B �
     pub lead-same : (v : A) (l m : Link A) → Into s v l → Grouped s g v l m → first v l ≡ first v m
     unfolding lead
     lead-same v l m i c =
-        leastOf-one earlier order l m (group v l) (group v m) (members l m i c) (members m l (grouped-into c).1 (grouped-flip c))
+        least_of-one earlier order l m (group v l) (group v m) (members l m i c) (members m l (grouped-into c).1 (grouped-flip c))
       where
         members : (l m : Link A) → Into s v l → Grouped s g v l m → (n : Link A) → Memᴰ n (l ∷ group v l) →
             Memᴰ n (m ∷ group v m)
@@ -96,7 +96,7 @@ module _ {𝓛 : Labels} {A B : Type 0} {sameA : A → A → Bool} {sameB : B �
     lead-grouped v l i =
         ⊎_elim (λ (e : first v l ≡ l). subst (λ x. Grouped s g v l x) (sym e) (itself i))
         (λ (j : Memᴰ (first v l) (group v l)). group-grouped v l (first v l) i j)
-        (mathlib.Core.List.Memᴰ.cases_cons (leastOf-listed earlier order l (group v l)))
+        (mathlib.Core.List.Memᴰ.cases_cons (least_of-listed earlier order l (group v l)))
 
     pub lead-one : (z : B) (l m : Link A) → Enters g over z l → Enters g over z m → first (over z) l ≡ first (over z) m
     lead-one z l m a b = lead-same (over z) l m (enters-into map z l a) (enters-grouped map (over z) z l m refl a b)
@@ -110,7 +110,7 @@ module _ {𝓛 : Labels} {A B : Type 0} {sameA : A → A → Bool} {sameB : B �
     pub lead-least : (v : A) (l m : Link A) → Into s v l → Grouped s g v l m → earlier m (first v l) ≡ false
     unfolding lead
     lead-least v l m i c =
-        leastOf-least earlier order l (group v l) m (mathlib.Core.List.Memᴰ.tail ((grouped-closed v l c).0 (group-self v l i)))
+        least_of-least earlier order l (group v l) m (mathlib.Core.List.Memᴰ.tail ((grouped-closed v l c).0 (group-self v l i)))
 
     -- the lead is the only link of its group that no link of the group comes before
     pub lead-unique : (v : A) (l k : Link A) → Into s v l → Grouped s g v l k →

@@ -10,7 +10,7 @@ use mathlib.Core.List.{
   Memᴰ,
 }
 use mathlib.Core.Logic.{◌⊎◌, ⊎_elim}
-use Rattle.graphs.specs.Difference.{Link, StrictOrder, leastOf}
+use Rattle.graphs.specs.Difference.{Link, StrictOrder, least_of}
 use Rattle.graphs.proofs.Search.{true-false}
 
 module _ {A : Type 0} (earlier : Link A → Link A → Bool) (order : StrictOrder earlier) where
@@ -30,24 +30,24 @@ module _ {A : Type 0} (earlier : Link A → Link A → Bool) (order : StrictOrde
           (λ (y : n ≡ m). true-false e (ap (λ t. earlier t l) y ∙ b)) x)
           (order.total n m)
 
-  pub leastOf-listed : (l : Link A) (ms : List (Link A)) → Memᴰ (leastOf earlier l ms) (l ∷ ms)
-  unfolding leastOf
-  leastOf-listed l [] = Memᴰ.head refl
-  leastOf-listed l (m ∷ ms) = go (earlier m l) (leastOf-listed (cond (earlier m l) m l) ms)
+  pub least_of-listed : (l : Link A) (ms : List (Link A)) → Memᴰ (least_of earlier l ms) (l ∷ ms)
+  unfolding least_of
+  least_of-listed l [] = Memᴰ.head refl
+  least_of-listed l (m ∷ ms) = go (earlier m l) (least_of-listed (cond (earlier m l) m l) ms)
     where
-      go : (c : Bool) → Memᴰ (leastOf earlier (cond c m l) ms) (cond c m l ∷ ms) →
-          Memᴰ (leastOf earlier (cond c m l) ms) (l ∷ m ∷ ms)
+      go : (c : Bool) → Memᴰ (least_of earlier (cond c m l) ms) (cond c m l ∷ ms) →
+          Memᴰ (least_of earlier (cond c m l) ms) (l ∷ m ∷ ms)
       go true h =
-          ⊎_elim (λ (e : leastOf earlier m ms ≡ m). Memᴰ.tail (Memᴰ.head e))
-          (λ (i : Memᴰ (leastOf earlier m ms) ms). Memᴰ.tail (Memᴰ.tail i)) (Memᴰ.cases_cons h)
+          ⊎_elim (λ (e : least_of earlier m ms ≡ m). Memᴰ.tail (Memᴰ.head e))
+          (λ (i : Memᴰ (least_of earlier m ms) ms). Memᴰ.tail (Memᴰ.tail i)) (Memᴰ.cases_cons h)
       go false h =
-          ⊎_elim (λ (e : leastOf earlier l ms ≡ l). Memᴰ.head e)
-          (λ (i : Memᴰ (leastOf earlier l ms) ms). Memᴰ.tail (Memᴰ.tail i)) (Memᴰ.cases_cons h)
+          ⊎_elim (λ (e : least_of earlier l ms ≡ l). Memᴰ.head e)
+          (λ (i : Memᴰ (least_of earlier l ms) ms). Memᴰ.tail (Memᴰ.tail i)) (Memᴰ.cases_cons h)
 
-  pub leastOf-least : (l : Link A) (ms : List (Link A)) → Least (leastOf earlier l ms) (l ∷ ms)
-  unfolding leastOf
-  leastOf-least l [] n i = ap (λ x. earlier x l) (Memᴰ.eq_of_singleton i) ∙ order.irreflexive l
-  leastOf-least l (m ∷ ms) n i = go (earlier m l) refl (leastOf-least (cond (earlier m l) m l) ms)
+  pub least_of-least : (l : Link A) (ms : List (Link A)) → Least (least_of earlier l ms) (l ∷ ms)
+  unfolding least_of
+  least_of-least l [] n i = ap (λ x. earlier x l) (Memᴰ.eq_of_singleton i) ∙ order.irreflexive l
+  least_of-least l (m ∷ ms) n i = go (earlier m l) refl (least_of-least (cond (earlier m l) m l) ms)
     where
       later : (k : Link A) → earlier l k ≡ false → earlier m k ≡ false → Least k ms → earlier n k ≡ false
       later k a b c =
@@ -62,14 +62,14 @@ module _ {A : Type 0} (earlier : Link A → Link A → Bool) (order : StrictOrde
           after false d = d
           after true d = true-false (order.transitive l m l d e) (order.irreflexive l)
 
-      go : (c : Bool) → earlier m l ≡ c → Least (leastOf earlier (cond c m l) ms) (cond c m l ∷ ms) →
-          earlier n (leastOf earlier (cond c m l) ms) ≡ false
+      go : (c : Bool) → earlier m l ≡ c → Least (least_of earlier (cond c m l) ms) (cond c m l ∷ ms) →
+          earlier n (least_of earlier (cond c m l) ms) ≡ false
       go true e h =
-          let k = leastOf earlier m ms in
+          let k = least_of earlier m ms in
           let b = h m (Memᴰ.head refl) in
           later k (not-earlier-trans k m l (behind e) b) b (λ x j. h x (Memᴰ.tail j))
       go false e h =
-          let k = leastOf earlier l ms in
+          let k = least_of earlier l ms in
           let b = h l (Memᴰ.head refl) in
           later k b (not-earlier-trans k l m e b) (λ x j. h x (Memᴰ.tail j))
 
@@ -81,9 +81,9 @@ module _ {A : Type 0} (earlier : Link A → Link A → Bool) (order : StrictOrde
       (order.total l m)
 
   -- lists with the same elements have one least link
-  pub leastOf-one : (l m : Link A) (ls ms : List (Link A)) → ((n : Link A) → Memᴰ n (l ∷ ls) → Memᴰ n (m ∷ ms)) →
-      ((n : Link A) → Memᴰ n (m ∷ ms) → Memᴰ n (l ∷ ls)) → leastOf earlier l ls ≡ leastOf earlier m ms
-  leastOf-one l m ls ms there back =
-      earlier-one (leastOf earlier l ls) (leastOf earlier m ms)
-      (leastOf-least m ms (leastOf earlier l ls) (there (leastOf earlier l ls) (leastOf-listed l ls)))
-      (leastOf-least l ls (leastOf earlier m ms) (back (leastOf earlier m ms) (leastOf-listed m ms)))
+  pub least_of-one : (l m : Link A) (ls ms : List (Link A)) → ((n : Link A) → Memᴰ n (l ∷ ls) → Memᴰ n (m ∷ ms)) →
+      ((n : Link A) → Memᴰ n (m ∷ ms) → Memᴰ n (l ∷ ls)) → least_of earlier l ls ≡ least_of earlier m ms
+  least_of-one l m ls ms there back =
+      earlier-one (least_of earlier l ls) (least_of earlier m ms)
+      (least_of-least m ms (least_of earlier l ls) (there (least_of earlier l ls) (least_of-listed l ls)))
+      (least_of-least l ls (least_of earlier m ms) (back (least_of earlier m ms) (least_of-listed m ms)))

@@ -26,7 +26,7 @@ use Rattle.graphs.proofs.Walk.{
 }
 use Rattle.graphs.proofs.Below.{walk-map, map_below, below-trans}
 use Rattle.graphs.proofs.Finite.{above-any-size}
-use Rattle.graphs.proofs.Unification.Beside.{linkBeside}
+use Rattle.graphs.proofs.Unification.Beside.{link_beside}
 use Rattle.graphs.proofs.Difference.Arrives.{Lies, lies-path, lies-link, related-cases, link-covered}
 use Rattle.graphs.proofs.Unification.Unifier.{joined-least}
 use Rattle.graphs.proofs.Search.{search-list}
@@ -36,13 +36,13 @@ use Rattle.graphs.proofs.Difference.Laws.{
   Enters,
   DifferenceLaws,
   Reason,
-  atRoot,
-  twoGroups,
-  bareGroup,
-  ownLabel,
-  keptBelow,
+  at_root,
+  two_groups,
+  bare_group,
+  own_label,
+  kept_below,
   UnderOver,
-  withLinks,
+  with_links,
 }
 use Rattle.graphs.proofs.Difference.Kept.{entered, root-path, no-link-to-root, enters-into, kept-walk, below-difference}
 
@@ -50,10 +50,10 @@ module _ {𝓛 : Labels} {A B E : Type 0} {s : Graph 𝓛.L A} {g : Graph 𝓛.L
     {lead : A → Link A → Link A} {keep : A → Bool} {wanted : A → 𝓛.L} {kept : A → ℕ → Option A}
     (laws : DifferenceLaws 𝓛 s g over lead keep wanted kept)
     (lattice : Lattice 𝓛) (sound : AnySize 𝓛 s) (map : NodeMap 𝓛 s g over)
-    (e : Graph 𝓛.L E) (above : Below 𝓛 (withLinks s wanted kept) e)
+    (e : Graph 𝓛.L E) (above : Below 𝓛 (with_links s wanted kept) e)
     (cover : (p q : List ℕ) → Corefer s p q → Joined e g p q) where
-  belowE : Below 𝓛 s e
-  belowE = below-trans lattice (below-difference laws) above
+  below_e : Below 𝓛 s e
+  below_e = below-trans lattice (below-difference laws) above
 
   -- x, a node of e, lies over v
   abbrev Over : E → A → Type 0
@@ -88,7 +88,7 @@ module _ {𝓛 : Labels} {A B E : Type 0} {s : Graph 𝓛.L A} {g : Graph 𝓛.L
   -- where a link of e enters
   past-over : (v : A) (l : Link A) (z : E) → s.link l.0 l.1 ≡ some v → Past l z → Over z v
   past-over v (u, f) z k (x, i, b) =
-      let (y, c, j) = lies-link belowE (map_below map) (inl x) (inl z) f u i (ap (Option.map inl) b) in
+      let (y, c, j) = lies-link below_e (map_below map) (inl x) (inl z) f u i (ap (Option.map inl) b) in
       subst (Over z) (some-unique c k) j
 
   one-lead : (v : A) (z : B) (l m : Link A) → over z ≡ v → Enters g over z l → Enters g over z m → lead v l ≡ lead v m
@@ -105,10 +105,10 @@ module _ {𝓛 : Labels} {A B E : Type 0} {s : Graph 𝓛.L A} {g : Graph 𝓛.L
   -- Every link of s has a link of e or of g over it.
   covered : (v : A) (l : Link A) → Into s v l → Covered l ⊎ ((z : B) × Enters g over z l)
   covered v (u, f) (r, k) =
-      let (x, y, i, a) = link-covered belowE (map_below map) cover u v f r k in
+      let (x, y, i, a) = link-covered below_e (map_below map) cover u v f r k in
       go x y i a
     where
-      go : (x y : E ⊎ B) → Lies e g s x u → linkBeside e g x f ≡ some y → Covered (u, f) ⊎ ((z : B) × Enters g over z (u, f))
+      go : (x y : E ⊎ B) → Lies e g s x u → link_beside e g x f ≡ some y → Covered (u, f) ⊎ ((z : B) × Enters g over z (u, f))
       go (inl x) y i a = let (z, b, _) = (map-eq-some_iff inl (e.link x f)).0 a in inl (z, (x, i, b))
       go (inr x) y i a =
           let (z, b, _) = (map-eq-some_iff inr (g.link x f)).0 a in
@@ -173,7 +173,7 @@ module _ {𝓛 : Labels} {A B E : Type 0} {s : Graph 𝓛.L A} {g : Graph 𝓛.L
 
     one-inner : One v
     one-inner x y i j =
-        let t = related-cases belowE (map_below map) cover v inner SameTips same-tips tips-ee tips-eg tips-gg (inl x) (inl y) i j in
+        let t = related-cases below_e (map_below map) cover v inner SameTips same-tips tips-ee tips-eg tips-gg (inl x) (inl y) i j in
         sym ((t x).0 refl)
 
   -- only the root lies over the root
@@ -216,10 +216,10 @@ module _ {𝓛 : Labels} {A B E : Type 0} {s : Graph 𝓛.L A} {g : Graph 𝓛.L
 
     group-eg : (u : A) (f : ℕ) (x z : E) (y w : B) → Over x u → Lies e g s (inr y) u → s.link u f ≡ some v →
         e.link x f ≡ some z → g.link y f ≡ some w → SameGroup (inl z) (inr w)
-    group-eg u f x z y w i j k a b = (absurd, λ t. inl (fromGroup t))
+    group-eg u f x z y w i j k a b = (absurd, λ t. inl (from_group t))
       where
-        fromGroup : InGroup v l (inr w) → Covered l
-        fromGroup (m, c, q) =
+        from_group : InGroup v l (inr w) → Covered l
+        from_group (m, c, q) =
             let d = enters-over u v f y w j k b in
             let p = (past-leader v (u, f) z k (x, i, a)).1 in
             let r : (u, f) ≡ l = sym p ∙ sym (one-lead v w m (u, f) d.1 c d.0) ∙ q in
@@ -239,7 +239,7 @@ module _ {𝓛 : Labels} {A B E : Type 0} {s : Graph 𝓛.L A} {g : Graph 𝓛.L
     -- what lies over v is in the group, if anything is, or a link of e lies over the leader
     group-all : (x y : E ⊎ B) → Lies e g s x v → Lies e g s y v → InGroup v l x → Covered l ⊎ InGroup v l y
     group-all x y i j =
-        (related-cases belowE (map_below map) cover v (λ q. no-link-to-root sound l (subst (λ u. Into s u l) q leader.0))
+        (related-cases below_e (map_below map) cover v (λ q. no-link-to-root sound l (subst (λ u. Into s u l) q leader.0))
         SameGroup same-group (λ u f x z y w i j k a b. (absurd, absurd)) group-eg group-gg x y i j).0
 
     -- a node of g that a link over the leader enters
@@ -249,10 +249,10 @@ module _ {𝓛 : Labels} {A B E : Type 0} {s : Graph 𝓛.L A} {g : Graph 𝓛.L
         (lies_over z v (reached-link g l.1 r k) (some-unique (enters-into map z l t).1 leader.0.1), (l, t, leader.1))
 
     leader-covered : (x : E) → Over x v → Covered l
-    leader-covered x i = ⊎_elim (λ (c : Covered l). c) byGroup (covered v l leader.0)
+    leader-covered x i = ⊎_elim (λ (c : Covered l). c) by_group (covered v l leader.0)
       where
-        byGroup : (z : B) × Enters g over z l → Covered l
-        byGroup (z, t) =
+        by_group : (z : B) × Enters g over z l → Covered l
+        by_group (z, t) =
             let (j, c) = group-node z t in
             ⊎_elim (λ (c : Covered l). c) absurd (group-all (inr z) (inl x) j i c)
 
@@ -263,19 +263,19 @@ module _ {𝓛 : Labels} {A B E : Type 0} {s : Graph 𝓛.L A} {g : Graph 𝓛.L
   -- whether a node of e lies over v
   over-decided : (same : A → A → Bool) → TellsApart same → (v : A) → ((x : E) × Over x v) ⊎ ((x : E) → Over x v → ⊥)
   over-decided same tells v =
-      let size = above-any-size lattice belowE sound in
+      let size = above-any-size lattice below_e sound in
       ⊎_elim (λ (t : (x : E) × Over x v). inl t)
       (λ (nowhere : (x : E) → Memᴰ x size.nodes → Over x v → ⊥).
       inr λ x i. nowhere x ((size.listed x).0 (i.0, i.1)) i)
       (search-list (λ x. Over x v) size.nodes λ x m. at x ((size.listed x).1 m))
     where
       at : (x : E) → Reached e x → Over x v ⊎ (Over x v → ⊥)
-      at x (p, a) = let (w, b, _) = belowE.paths p x a in go w b (same w v) refl
+      at x (p, a) = let (w, b, _) = below_e.paths p x a in go w b (same w v) refl
         where
           go : (w : A) → walk s p ≡ some w → (b : Bool) → same w v ≡ b → Over x v ⊎ (Over x v → ⊥)
           go w b true q = inl (p, a, b ∙ ap some ((tells w v).0 q))
           go w b false q =
-              inr λ i. true≢false (sym ((tells w v).1 (some-unique b (lies-path belowE (map_below map) (inl x) v i p a))) ∙ q)
+              inr λ i. true≢false (sym ((tells w v).1 (some-unique b (lies-path below_e (map_below map) (inl x) v i p a))) ∙ q)
 
   module _ (labels : (p : List ℕ) (v : A) (a : 𝓛.L) → walk s p ≡ some v → UnderClass 𝓛 e g p a →
       𝓛.le a (s.label v) ≡ true) where
@@ -291,7 +291,7 @@ module _ {𝓛 : Labels} {A B E : Type 0} {s : Graph 𝓛.L A} {g : Graph 𝓛.L
       where
         together : (q : List ℕ) → Joined e g p q → walk s q ≡ some v
         together q j =
-            let (x, a, b) = joined-least e g s belowE.corefers (map_below map).corefers j in
+            let (x, a, b) = joined-least e g s below_e.corefers (map_below map).corefers j in
             b ∙ sym a ∙ w
 
     -- the label of a node of e over v is below the wanted one
@@ -303,7 +303,7 @@ module _ {𝓛 : Labels} {A B E : Type 0} {s : Graph 𝓛.L A} {g : Graph 𝓛.L
       where
         smaller : Over x v → 𝓛.le (s.label v) (e.label x) ≡ true
         smaller (p, a, w) =
-            let (t, b, c) = belowE.paths p x a in
+            let (t, b, c) = below_e.paths p x a in
             ap (λ z. 𝓛.le (s.label z) (e.label x)) (some-unique w b) ∙ c
 
     module _ (same : A → A → Bool) (tells : TellsApart same) where
@@ -319,8 +319,8 @@ module _ {𝓛 : Labels} {A B E : Type 0} {s : Graph 𝓛.L A} {g : Graph 𝓛.L
               enough l i (z, p) = (z, past-over v l z i.1 p)
 
               because : Reason 𝓛 s g over lead keep wanted v → (x : E) × Over x v
-              because (atRoot q) = root_over v q
-              because (twoGroups l m a b apart) = ⊎_elim (enough l a.0) first (covered v l a.0)
+              because (at_root q) = root_over v q
+              because (two_groups l m a b apart) = ⊎_elim (enough l a.0) first (covered v l a.0)
                 where
                   second : (z : B) → Lies e g s (inr z) v → InGroup v l (inr z) → (y : B) × Enters g over y m → (x : E) × Over x v
                   second z i c (y, t) =
@@ -331,16 +331,16 @@ module _ {𝓛 : Labels} {A B E : Type 0} {s : Graph 𝓛.L A} {g : Graph 𝓛.L
 
                   first : (z : B) × Enters g over z l → (x : E) × Over x v
                   first (z, t) = let (i, c) = group-node v l a z t in ⊎_elim (enough m b.0) (second z i c) (covered v m b.0)
-              because (bareGroup l a bare) =
+              because (bare_group l a bare) =
                   ⊎_elim (enough l a.0) (λ (t : (z : B) × Enters g over z l). absurd (bare t.0 t.1)) (covered v l a.0)
-              because (ownLabel q) = ⊎_elim (λ (t : (x : E) × Over x v). t) labelled (over-decided same tells v)
+              because (own_label q) = ⊎_elim (λ (t : (x : E) × Over x v). t) labelled (over-decided same tells v)
                 where
                   labelled : ((x : E) → Over x v → ⊥) → (x : E) × Over x v
                   labelled bare =
                       let t = laws.greatest v r 𝓛.top (lattice.top-greatest (s.label v))
                       (λ a _ under. class-label v r a under λ x i. absurd (bare x i)) in
                       absurd (true≢false (sym t ∙ q))
-              because (keptBelow f w a q) =
+              because (kept_below f w a q) =
                   let (x, i) = ih f w a.0.1 q in
                   let (z, (y, j, _)) = leader-covered w (v, f) a x i in
                   (y, j)
@@ -353,18 +353,18 @@ module _ {𝓛 : Labels} {A B E : Type 0} {s : Graph 𝓛.L A} {g : Graph 𝓛.L
           (z, ap (λ t. e.link t f) (one u (over-reached x u i) x x' i i') ∙ c)
 
       -- the paths of the difference are paths of e
-      kept-path : (p : List ℕ) (v : A) → walk (withLinks s wanted kept) p ≡ some v → (x : E) × (walk e p ≡ some x)
+      kept-path : (p : List ℕ) (v : A) → walk (with_links s wanted kept) p ≡ some v → (x : E) × (walk e p ≡ some x)
       unfolding follow
       kept-path =
-          snoc-induction (λ p. (v : A) → walk (withLinks s wanted kept) p ≡ some v → (x : E) × (walk e p ≡ some x))
+          snoc-induction (λ p. (v : A) → walk (with_links s wanted kept) p ≡ some v → (x : E) × (walk e p ≡ some x))
           (λ v _. (e.root, refl)) more
         where
           further : (p : List ℕ) (f : ℕ) (x : E) → walk e p ≡ some x → (z : E) × (e.link x f ≡ some z) →
               (z : E) × (walk e (p ++ (f ∷ [])) ≡ some z)
           further p f x d (z, c) = (z, walk-snoc e p f d ∙ c)
 
-          more : (p : List ℕ) (f : ℕ) → ((v : A) → walk (withLinks s wanted kept) p ≡ some v → (x : E) × (walk e p ≡ some x)) →
-              (v : A) → walk (withLinks s wanted kept) (p ++ (f ∷ [])) ≡ some v → (x : E) × (walk e (p ++ (f ∷ [])) ≡ some x)
+          more : (p : List ℕ) (f : ℕ) → ((v : A) → walk (with_links s wanted kept) p ≡ some v → (x : E) × (walk e p ≡ some x)) →
+              (v : A) → walk (with_links s wanted kept) (p ++ (f ∷ [])) ≡ some v → (x : E) × (walk e (p ++ (f ∷ [])) ≡ some x)
           more p f ih v a =
               let (u, b, k) = follow-last kept (some s.root) p f v a in
               let w = (kept-walk laws p u b).0 in
@@ -373,16 +373,16 @@ module _ {𝓛 : Labels} {A B E : Type 0} {s : Graph 𝓛.L A} {g : Graph 𝓛.L
               further p f x d (over-step u v f x (p, d, w) ld kv)
 
       -- A graph above the difference that restores s with g lies below the difference.
-      pub most-general : Below 𝓛 e (withLinks s wanted kept)
+      pub most-general : Below 𝓛 e (with_links s wanted kept)
       most-general = record { paths = paths; corefers = corefers }
         where
-          paths : (p : List ℕ) (v : A) → walk (withLinks s wanted kept) p ≡ some v →
+          paths : (p : List ℕ) (v : A) → walk (with_links s wanted kept) p ≡ some v →
               (x : E) × (walk e p ≡ some x) × (𝓛.le (e.label x) (wanted v) ≡ true)
           paths p v a =
               let (x, b) = kept-path p v a in
               (x, b, over-label v x (p, b, (kept-walk laws p v a).0))
 
-          corefers : (p q : List ℕ) → Corefer (withLinks s wanted kept) p q → Corefer e p q
+          corefers : (p q : List ℕ) → Corefer (with_links s wanted kept) p q → Corefer e p q
           corefers p q (v, a, b) =
               let (x, c) = kept-path p v a in
               let (y, d) = kept-path q v b in

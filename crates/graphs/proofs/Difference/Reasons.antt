@@ -16,14 +16,14 @@ use Rattle.graphs.specs.Relations.{
   NothingOver,
   TwoGroups,
   Kept,
-  isRoot,
-  manyGroups,
-  nothingOver,
-  wantsLabel,
-  keepsLink,
+  is_root,
+  many_groups,
+  nothing_over,
+  wants_label,
+  keeps_link,
   KeptLink,
 }
-use Rattle.graphs.specs.Reasons.{reasonAt, IsReason}
+use Rattle.graphs.specs.Reasons.{reason_at, IsReason}
 use Rattle.graphs.proofs.Unification.Beside.{Operands}
 use Rattle.graphs.proofs.Difference.Laws.{Leader}
 use Rattle.graphs.proofs.Difference.Kept.{no-link-to-root, link-over}
@@ -70,16 +70,16 @@ module _ {𝓛 : Labels} {A B : Type 0} {sameA : A → A → Bool} {sameB : B �
       -- a node that is kept for neither of the first two reasons is kept for its label or for a link below
       kept-third : (l : Link A) (v : A) → Into s v l → SomethingOver s g l → (TwoGroups s g v → ⊥) → Kept s g earlier Wants v →
           Wants v ⊎ ((f : ℕ) × (w : A) × KeptLink s g earlier Wants v f w)
-      kept-third l v i something one (isRoot e) = absurd (no-link-to-root sound l (subst (λ u. Into s u l) e i))
-      kept-third l v i something one (manyGroups two) = absurd (one two)
-      kept-third l v i something one (nothingOver {l = m} j nothing) =
+      kept-third l v i something one (is_root e) = absurd (no-link-to-root sound l (subst (λ u. Into s u l) e i))
+      kept-third l v i something one (many_groups two) = absurd (one two)
+      kept-third l v i something one (nothing_over {l = m} j nothing) =
           absurd (one (m, l, j, i, λ c. nothing (subst (SomethingOver s g) (sym (bare-alone c nothing)) something)))
-      kept-third l v i something one (wantsLabel w) = inl w
-      kept-third l v i something one (keepsLink {w = w} {f} least k) = inr (f, w, (least, k))
+      kept-third l v i something one (wants_label w) = inl w
+      kept-third l v i something one (keeps_link {w = w} {f} least k) = inr (f, w, (least, k))
 
       pub reason-tells : (l : Link A) (v : A) → KeptLink s g earlier Wants l.0 l.1 v →
-          IsReason s g earlier Wants l v (reasonAt sameA sameB s ss g gs over earlier l v)
-      unfolding reasonAt
+          IsReason s g earlier Wants l v (reason_at sameA sameB s ss g gs over earlier l v)
+      unfolding reason_at
       reason-tells l v (least, k) = go (is_bare l) refl (apart v) refl
         where
           go : (b : Bool) → is_bare l ≡ b → (a : Bool) → apart v ≡ a →

@@ -21,18 +21,18 @@ use Rattle.graphs.specs.Relations.{
   TwoGroups,
   LeastOfGroup,
   Kept,
-  isRoot,
-  manyGroups,
-  nothingOver,
-  wantsLabel,
-  keepsLink,
+  is_root,
+  many_groups,
+  nothing_over,
+  wants_label,
+  keeps_link,
   KeptLink,
 }
 use Rattle.graphs.proofs.Walk.{reached-link}
 use Rattle.graphs.proofs.Search.{true-false}
 use Rattle.graphs.proofs.Unification.Beside.{Operands}
 use Rattle.graphs.proofs.Difference.Induct.{children-first}
-use Rattle.graphs.proofs.Difference.Laws.{Leader, Reason, atRoot, twoGroups, bareGroup, ownLabel, keptBelow}
+use Rattle.graphs.proofs.Difference.Laws.{Leader, Reason, at_root, two_groups, bare_group, own_label, kept_below}
 use Rattle.graphs.proofs.Difference.Kept.{grouped-flip, lies_over, link-over}
 use Rattle.graphs.proofs.Difference.Lead.{
   group-self,
@@ -57,12 +57,12 @@ bare-alone {s = s} {g} (chain c d) bare =
 -- What is kept depends on the labels that reached nodes want.
 pub kept-wants : {L A B : Type 0} {s : Graph L A} {g : Graph L B} {earlier : Link A → Link A → Bool} {Wants Wants' : A → Type 0} →
     ((v : A) → Reached s v → Wants v → Wants' v) → (v : A) → Reached s v → Kept s g earlier Wants v → Kept s g earlier Wants' v
-kept-wants wants v r (isRoot e) = isRoot e
-kept-wants wants v r (manyGroups t) = manyGroups t
-kept-wants wants v r (nothingOver i bare) = nothingOver i bare
-kept-wants wants v r (wantsLabel w) = wantsLabel (wants v r w)
-kept-wants {s = s} wants v r (keepsLink {w = w} {f} least k) =
-    keepsLink least (kept-wants wants w (reached-link s f r least.0.1) k)
+kept-wants wants v r (is_root e) = is_root e
+kept-wants wants v r (many_groups t) = many_groups t
+kept-wants wants v r (nothing_over i bare) = nothing_over i bare
+kept-wants wants v r (wants_label w) = wants_label (wants v r w)
+kept-wants {s = s} wants v r (keeps_link {w = w} {f} least k) =
+    keeps_link least (kept-wants wants w (reached-link s f r least.0.1) k)
 
 pub over-exact : {𝓛 : Labels} {A B : Type 0} {s : Graph 𝓛.L A} {g : Graph 𝓛.L B} {over : B → A} → NodeMap 𝓛 s g over →
     (y : B) (v : A) → LiesOver s g y v ↔ (Reached g y × (over y ≡ v))
@@ -114,54 +114,54 @@ module _ {𝓛 : Labels} {A B : Type 0} {sameA : A → A → Bool} {sameB : B �
       abbrev Wants : A → Type 0
       Wants v = 𝓛.le 𝓛.top (wanted v) ≡ false
 
-      abbrev isKept : A → Bool
-      isKept v = keep operands over sound earlier wanted v
+      abbrev is_kept : A → Bool
+      is_kept v = keep operands over sound earlier wanted v
 
-      keep-kept : (v : A) → Reached s v → isKept v ≡ true → Kept s g earlier Wants v
-      keep-kept = children-first sound (λ v. isKept v ≡ true → Kept s g earlier Wants v) next
+      keep-kept : (v : A) → Reached s v → is_kept v ≡ true → Kept s g earlier Wants v
+      keep-kept = children-first sound (λ v. is_kept v ≡ true → Kept s g earlier Wants v) next
         where
-          next : (v : A) → Reached s v → ((f : ℕ) (w : A) → s.link v f ≡ some w → isKept w ≡ true → Kept s g earlier Wants w) →
-              isKept v ≡ true → Kept s g earlier Wants v
+          next : (v : A) → Reached s v → ((f : ℕ) (w : A) → s.link v f ≡ some w → is_kept w ≡ true → Kept s g earlier Wants w) →
+              is_kept v ≡ true → Kept s g earlier Wants v
           next v r ih k = go (keep-reason operands over sound earlier wanted v r k)
             where
-              go : Reason 𝓛 s g over first isKept wanted v → Kept s g earlier Wants v
-              go (atRoot e) = isRoot e
-              go (twoGroups l m a b differ) = manyGroups ((two-leaders v).1 (l, m, a, b, differ))
-              go (bareGroup l a none) = nothingOver a.0 (λ (z, o). none z ((link-over lies z l).0 o))
-              go (ownLabel e) = wantsLabel e
-              go (keptBelow f w a e) = keepsLink ((least-leader w (v, f)).1 a) (ih f w a.0.1 e)
+              go : Reason 𝓛 s g over first is_kept wanted v → Kept s g earlier Wants v
+              go (at_root e) = is_root e
+              go (two_groups l m a b differ) = many_groups ((two-leaders v).1 (l, m, a, b, differ))
+              go (bare_group l a none) = nothing_over a.0 (λ (z, o). none z ((link-over lies z l).0 o))
+              go (own_label e) = wants_label e
+              go (kept_below f w a e) = keeps_link ((least-leader w (v, f)).1 a) (ih f w a.0.1 e)
 
-      kept-keep : (v : A) → Reached s v → Kept s g earlier Wants v → isKept v ≡ true
-      kept-keep v r (isRoot e) = ap isKept e ∙ root_kept operands over sound earlier wanted
-      kept-keep v r (manyGroups t) = go (isKept v) refl
+      kept-keep : (v : A) → Reached s v → Kept s g earlier Wants v → is_kept v ≡ true
+      kept-keep v r (is_root e) = ap is_kept e ∙ root_kept operands over sound earlier wanted
+      kept-keep v r (many_groups t) = go (is_kept v) refl
         where
-          go : (b : Bool) → isKept v ≡ b → isKept v ≡ true
+          go : (b : Bool) → is_kept v ≡ b → is_kept v ≡ true
           go true e = e
           go false e =
               let (l, m, a, b, differ) = (two-leaders v).0 t in
-              absurd (differ ((keep-idle operands over sound earlier wanted v r e).oneGroup l m a b))
-      kept-keep v r (nothingOver {l = l} i bare) = go (isKept v) refl
+              absurd (differ ((keep-idle operands over sound earlier wanted v r e).one_group l m a b))
+      kept-keep v r (nothing_over {l = l} i bare) = go (is_kept v) refl
         where
           alone : l ≡ first v l
           alone = bare-alone (lead-grouped operands lies earlier order v l i) bare
 
-          go : (b : Bool) → isKept v ≡ b → isKept v ≡ true
+          go : (b : Bool) → is_kept v ≡ b → is_kept v ≡ true
           go true e = e
           go false e =
               let (z, enters) = (keep-idle operands over sound earlier wanted v r e).covered l (i, sym alone) in
               absurd (bare (z, (link-over lies z l).1 enters))
-      kept-keep v r (wantsLabel w) = go (isKept v) refl
+      kept-keep v r (wants_label w) = go (is_kept v) refl
         where
-          go : (b : Bool) → isKept v ≡ b → isKept v ≡ true
+          go : (b : Bool) → is_kept v ≡ b → is_kept v ≡ true
           go true e = e
           go false e = true-false (keep-idle operands over sound earlier wanted v r e).no_label w
-      kept-keep v r (keepsLink {w = w} {f} least k) =
-          go (isKept v) refl (kept-keep w (reached-link s f r least.0.1) k)
+      kept-keep v r (keeps_link {w = w} {f} least k) =
+          go (is_kept v) refl (kept-keep w (reached-link s f r least.0.1) k)
         where
-          go : (b : Bool) → isKept v ≡ b → isKept w ≡ true → isKept v ≡ true
+          go : (b : Bool) → is_kept v ≡ b → is_kept w ≡ true → is_kept v ≡ true
           go true e later = e
           go false e later =
-              true-false later ((keep-idle operands over sound earlier wanted v r e).noneBelow f w ((least-leader w (v, f)).0 least))
+              true-false later ((keep-idle operands over sound earlier wanted v r e).none_below f w ((least-leader w (v, f)).0 least))
 
       pub keep-exact : (u : A) (f : ℕ) (v : A) → Reached s u →
           ((difference 𝓛 sameA sameB earlier s ss g gs over wanted).link u f ≡ some v) ↔ KeptLink s g earlier Wants u f v

@@ -20,11 +20,11 @@ use Rattle.graphs.specs.Relations.{
   TwoGroups,
   LeastOfGroup,
   Kept,
-  isRoot,
-  manyGroups,
-  nothingOver,
-  wantsLabel,
-  keepsLink,
+  is_root,
+  many_groups,
+  nothing_over,
+  wants_label,
+  keeps_link,
   KeptLink,
 }
 use Rattle.graphs.specs.Reasons.{IsReason}
@@ -37,8 +37,8 @@ abbrev pub renamed : {A C : Type 0} → (A → C) → Link A → Link C
 renamed to l = (to l.0, l.1)
 
 -- the order of links by the new names
-abbrev pub byNames : {A C : Type 0} → (A → C) → (Link C → Link C → Bool) → Link A → Link A → Bool
-byNames to earlier l m = earlier (renamed to l) (renamed to m)
+abbrev pub by_names : {A C : Type 0} → (A → C) → (Link C → Link C → Bool) → Link A → Link A → Bool
+by_names to earlier l m = earlier (renamed to l) (renamed to m)
 
 module _ {L A B C : Type 0} {to : A → C} {s : Graph L A} {r : Graph L C} (same : Exact to s r) (g : Graph L B) where
   abbrev on : Link A → Link C
@@ -119,30 +119,30 @@ module _ {L A B C : Type 0} {to : A → C} {s : Graph L A} {r : Graph L C} (same
 
   module _ (earlier : Link C → Link C → Bool) where
     least-from : (v : A) (l : Link A) → Reached s v → Reached s l.0 → LeastOfGroup r g earlier (to v) (on l) →
-        LeastOfGroup s g (byNames to earlier) v l
+        LeastOfGroup s g (by_names to earlier) v l
     least-from v l q u (i, least) =
         let (h, x, e) = into-from v (on l) q i in
         (subst (Into s v) (on-injective h l x.0 u e) x, λ m c. least (on m) (grouped-to c))
 
     module _ {Wants : A → Type 0} {Wants' : C → Type 0} (wants : (v : A) → Reached s v → Wants' (to v) → Wants v) where
-      kept_from : (v : A) → Reached s v → {w : C} → to v ≡ w → Kept r g earlier Wants' w → Kept s g (byNames to earlier) Wants v
-      kept_from v q e (isRoot d) = isRoot (same.injective v s.root q (reached-root s) (e ∙ d ∙ sym same.root))
-      kept_from v q e (manyGroups t) = manyGroups ((two-groups v q).0 (subst (TwoGroups r g) (sym e) t))
-      kept_from v q e (nothingOver {l = m} i none) =
+      kept_from : (v : A) → Reached s v → {w : C} → to v ≡ w → Kept r g earlier Wants' w → Kept s g (by_names to earlier) Wants v
+      kept_from v q e (is_root d) = is_root (same.injective v s.root q (reached-root s) (e ∙ d ∙ sym same.root))
+      kept_from v q e (many_groups t) = many_groups ((two-groups v q).0 (subst (TwoGroups r g) (sym e) t))
+      kept_from v q e (nothing_over {l = m} i none) =
           let (l, x, d) = into-from v m q (subst (λ w. Into r w m) (sym e) i) in
-          nothingOver x (λ o. none (subst (SomethingOver r g) d ((something-over l x.0).1 o)))
-      kept_from v q e (wantsLabel d) = wantsLabel (wants v q (subst Wants' (sym e) d))
-      kept_from v q e (keepsLink {w = w} {f} least k) =
+          nothing_over x (λ o. none (subst (SomethingOver r g) d ((something-over l x.0).1 o)))
+      kept_from v q e (wants_label d) = wants_label (wants v q (subst Wants' (sym e) d))
+      kept_from v q e (keeps_link {w = w} {f} least k) =
           let (x, l, d) = link-from v w f q (ap (λ u. r.link u f) e ∙ least.0.1) in
           let h = reached-link s f q l in
-          keepsLink
+          keeps_link
           (least-from x (v, f) h q
           (subst (λ u. LeastOfGroup r g earlier u (to v, f)) (sym d) (subst (λ u. LeastOfGroup r g earlier w (u, f)) (sym e) least)))
           (kept_from x h d k)
 
       -- a reason that tells what it should of a renamed link tells it of the link
       pub reason-from : (l : Link A) (v : A) → Into s v l → (reason : ℕ) → IsReason r g earlier Wants' (on l) (to v) reason →
-          IsReason s g (byNames to earlier) Wants l v reason
+          IsReason s g (by_names to earlier) Wants l v reason
       reason-from l v i reason is =
           record {
             first = (
@@ -164,7 +164,7 @@ module _ {L A B C : Type 0} {to : A → C} {s : Graph L A} {r : Graph L C} (same
           q = reached-link s l.1 i.0 i.1
 
           below : (f : ℕ) × (w : C) × KeptLink r g earlier Wants' (to v) f w →
-              Wants v ⊎ ((f : ℕ) × (w : A) × KeptLink s g (byNames to earlier) Wants v f w)
+              Wants v ⊎ ((f : ℕ) × (w : A) × KeptLink s g (by_names to earlier) Wants v f w)
           below (f, w, (least, k)) =
               let (x, e, d) = link-from v w f q least.0.1 in
               let h = reached-link s f q e in

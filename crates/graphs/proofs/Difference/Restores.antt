@@ -21,7 +21,7 @@ use Rattle.graphs.proofs.Difference.Laws.{
   Enters,
   DifferenceLaws,
   UnderOver,
-  withLinks,
+  with_links,
 }
 use Rattle.graphs.proofs.Difference.Kept.{
   last-link,
@@ -51,11 +51,11 @@ module _ {𝓛 : Labels} {A B C : Type 0} {s : Graph 𝓛.L A} {g : Graph 𝓛.L
     {lead : A → Link A → Link A} {keep : A → Bool} {wanted : A → 𝓛.L} {kept : A → ℕ → Option A}
     (laws : DifferenceLaws 𝓛 s g over lead keep wanted kept)
     (lattice : Lattice 𝓛) (sound : AnySize 𝓛 s) (map : NodeMap 𝓛 s g over)
-    (h : Graph 𝓛.L C) (belowD : Below 𝓛 h (withLinks s wanted kept)) (belowG : Below 𝓛 h g) where
+    (h : Graph 𝓛.L C) (belowD : Below 𝓛 h (with_links s wanted kept)) (belowG : Below 𝓛 h g) where
   -- w is the image of v
   record Image (v : A) (w : C) : Type 0 where
-    pub ofKept : keep v ≡ true → Stands (withLinks s wanted kept) h v w
-    pub ofOver : (y : B) → Reached g y → over y ≡ v → Stands g h y w
+    pub of_kept : keep v ≡ true → Stands (with_links s wanted kept) h v w
+    pub of_over : (y : B) → Reached g y → over y ≡ v → Stands g h y w
 
   -- from images of its source, the link leads to w in h
   abbrev Goes : Link A → C → Type 0
@@ -65,20 +65,20 @@ module _ {𝓛 : Labels} {A B C : Type 0} {s : Graph 𝓛.L A} {g : Graph 𝓛.L
   enters-stands : (z : B) (l : Link A) (x w : C) → Enters g over z l → Image l.0 x → h.link x l.1 ≡ some w → Stands g h z w
   enters-stands z l x w (y, r, o, e) i a =
       stands belowG z w (r.0 ++ (l.1 ∷ [])) (walk-snoc g r.0 l.1 r.1 ∙ e)
-      (walk-snoc h r.0 l.1 (i.ofOver y r o r.0 r.1) ∙ a)
+      (walk-snoc h r.0 l.1 (i.of_over y r o r.0 r.1) ∙ a)
 
   enters-goes : (z : B) (l : Link A) (w : C) → Enters g over z l → Stands g h z w → Goes l w
   enters-goes z l w (y, r, o, e) a x i =
-      sym (walk-snoc h r.0 l.1 (i.ofOver y r o r.0 r.1)) ∙
+      sym (walk-snoc h r.0 l.1 (i.of_over y r o r.0 r.1)) ∙
       a (r.0 ++ (l.1 ∷ [])) (walk-snoc g r.0 l.1 r.1 ∙ e)
 
   -- a link of the difference and its target
-  kept_goes : (v : A) (l : Link A) (w : C) → Leader s lead v l → keep v ≡ true → Stands (withLinks s wanted kept) h v w → Goes l w
+  kept_goes : (v : A) (l : Link A) (w : C) → Leader s lead v l → keep v ≡ true → Stands (with_links s wanted kept) h v w → Goes l w
   kept_goes v l w m k a x i =
       let r = reached-kept laws sound l.0 m.0.0 (source-kept laws v l m k) in
       let e = (laws.links l.0 l.1 v m.0.0).1 (m, k) in
-      sym (walk-snoc h r.0 l.1 (i.ofKept (source-kept laws v l m k) r.0 r.1)) ∙
-      a (r.0 ++ (l.1 ∷ [])) (walk-snoc (withLinks s wanted kept) r.0 l.1 r.1 ∙ e)
+      sym (walk-snoc h r.0 l.1 (i.of_kept (source-kept laws v l m k) r.0 r.1)) ∙
+      a (r.0 ++ (l.1 ∷ [])) (walk-snoc (with_links s wanted kept) r.0 l.1 r.1 ∙ e)
 
   -- where the links into v, from images of their sources, lead
   record Place (v : A) : Type 0 where
@@ -104,14 +104,14 @@ module _ {𝓛 : Labels} {A B C : Type 0} {s : Graph 𝓛.L A} {g : Graph 𝓛.L
 
     -- where all leaders into v lead to w, all links do, and so do the nodes of g over v
     place : (v ≡ s.root → ⊥) → (w : C) → ((l : Link A) → Leader s lead v l → Goes l w) →
-        (keep v ≡ true → Stands (withLinks s wanted kept) h v w) → Place v
-    place inner w leader byKept = record { node = w; image = record { ofKept = byKept; ofOver = byOver }; goes = goes }
+        (keep v ≡ true → Stands (with_links s wanted kept) h v w) → Place v
+    place inner w leader byKept = record { node = w; image = record { of_kept = byKept; of_over = by_over }; goes = goes }
       where
         goes : (l : Link A) → Into s v l → Goes l w
         goes l i = (grouped-goes w (laws.grouped v l i)).1 (leader (lead v l) (laws.leads v l i))
 
-        byOver : (y : B) → Reached g y → over y ≡ v → Stands g h y w
-        byOver y r o = go (last-link g r.0 y r.1)
+        by_over : (y : B) → Reached g y → over y ≡ v → Stands g h y w
+        by_over y r o = go (last-link g r.0 y r.1)
           where
             go : ((r.0 ≡ []) × (y ≡ g.root)) ⊎
                 ((q : List ℕ) × (x : B) × (f : ℕ) × (r.0 ≡ q ++ (f ∷ [])) × (walk g q ≡ some x) × (g.link x f ≡ some y)) →
@@ -130,14 +130,14 @@ module _ {𝓛 : Labels} {A B C : Type 0} {s : Graph 𝓛.L A} {g : Graph 𝓛.L
       record {
         node = h.root;
         image = record {
-          ofKept = λ k p e. atRoot p (kept-walk laws p s.root e).0;
-          ofOver = λ y r o p e. atRoot p (walk-map map p y e ∙ ap some o);
+          of_kept = λ k p e. at_root p (kept-walk laws p s.root e).0;
+          of_over = λ y r o p e. at_root p (walk-map map p y e ∙ ap some o);
         };
         goes = λ l i. absurd (no-link-to-root sound l i);
       }
     where
-      atRoot : (p : List ℕ) → walk s p ≡ some s.root → walk h p ≡ some h.root
-      atRoot p e = ap (λ q. walk h q) (root-path sound p e)
+      at_root : (p : List ℕ) → walk s p ≡ some s.root → walk h p ≡ some h.root
+      at_root p e = ap (λ q. walk h q) (root-path sound p e)
 
   -- a node that a link enters
   place-inner : (v : A) → (v ≡ s.root → ⊥) → Reached s v → (l : Link A) → Into s v l →
@@ -160,7 +160,7 @@ module _ {𝓛 : Labels} {A B C : Type 0} {s : Graph 𝓛.L A} {g : Graph 𝓛.L
           place v sources inner w.0
           (λ m t.
           enters-goes c.0 m w.0
-          (subst (λ x. Enters g over c.0 x) (idle.oneGroup (lead v l) m (laws.leads v l i) t) c.1) a)
+          (subst (λ x. Enters g over c.0 x) (idle.one_group (lead v l) m (laws.leads v l i) t) c.1) a)
           (λ d. absurd (true≢false (sym d ∙ k)))
 
   placed : (v : A) → Reached s v → Place v
@@ -180,7 +180,7 @@ module _ {𝓛 : Labels} {A B C : Type 0} {s : Graph 𝓛.L A} {g : Graph 𝓛.L
   lands = snoc-induction (λ p. (v : A) (x : Place v) → walk s p ≡ some v → walk h p ≡ some x.node) base more
     where
       base : (v : A) (x : Place v) → walk s [] ≡ some v → walk h [] ≡ some x.node
-      base v x e = x.image.ofKept (ap keep (sym (some-injective e)) ∙ laws.root_kept) [] e
+      base v x e = x.image.of_kept (ap keep (sym (some-injective e)) ∙ laws.root_kept) [] e
 
       more : (p : List ℕ) (f : ℕ) → ((v : A) (x : Place v) → walk s p ≡ some v → walk h p ≡ some x.node) →
           (v : A) (x : Place v) → walk s (p ++ (f ∷ [])) ≡ some v → walk h (p ++ (f ∷ [])) ≡ some x.node
@@ -199,11 +199,11 @@ module _ {𝓛 : Labels} {A B C : Type 0} {s : Graph 𝓛.L A} {g : Graph 𝓛.L
           ap (λ z. 𝓛.le (h.label z) (k.label x)) (some-unique (a q.0 q.1) t.1) ∙ t.2
 
       go : (b : Bool) → keep v ≡ b → 𝓛.le (h.label w) (wanted v) ≡ true
-      go true k = labelled (withLinks s wanted kept) v belowD (reached-kept laws sound v r k) (i.ofKept k)
+      go true k = labelled (with_links s wanted kept) v belowD (reached-kept laws sound v r k) (i.of_kept k)
       go false k = lattice.le_trans _ _ _ (lattice.top-greatest (h.label w)) (laws.idle v r k).no_label
 
       under : UnderOver 𝓛 g over v (h.label w)
-      under y q o = labelled g y belowG q (i.ofOver y q o)
+      under y q o = labelled g y belowG q (i.of_over y q o)
 
   -- Whatever lies below the difference and g lies below s.
   pub restores-greatest : Below 𝓛 h s

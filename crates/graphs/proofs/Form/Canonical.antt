@@ -25,12 +25,12 @@ use Rattle.graphs.specs.Label.{Labels}
 use Rattle.graphs.specs.Graph.{Graph, TellsApart, walk, Reached, SameMeaning}
 use Rattle.graphs.specs.Map.{Exact}
 use Rattle.graphs.specs.Rows.{Row, target, graph_of}
-use Rattle.graphs.specs.Number.{canonical, counted, index_of, linkCount, manyLinks, row_of, visit, written}
+use Rattle.graphs.specs.Number.{canonical, counted, index_of, link_count, many_links, row_of, visit, written}
 use Rattle.graphs.specs.Large.{Distinct}
-use Rattle.graphs.specs.Reasons.{order_in, writtenOrder}
+use Rattle.graphs.specs.Reasons.{order_in, written_order}
 use Rattle.graphs.proofs.Walk.{some-injective, reached-root, reached-link, snoc-induction, follow-last, follow-nil}
-use Rattle.graphs.proofs.Lists.{mem-reverse, mem-unreverse, reverse_snoc, getD-index, index-injective, index-first, tells-eqb}
-use Rattle.graphs.proofs.Rows.{target-linksOf}
+use Rattle.graphs.proofs.Lists.{mem-reverse, mem-unreverse, reverse_snoc, get_or-index, index-injective, index-first, tells-eqb}
+use Rattle.graphs.proofs.Rows.{target-links_of}
 use Rattle.graphs.proofs.Below.{exact-walk, same-sym, same-trans}
 use Rattle.graphs.proofs.Form.Bisimilar.{Alike, absent, present, Bisimilar, alike-left, alike-walk, bisimilar-same}
 use Rattle.graphs.proofs.Form.Invariant.{bisimilar-canonical, same-canonical}
@@ -41,24 +41,24 @@ module _ {L A : Type 0} (same : A → A → Bool) (g : Graph L A) where
   pub canonical-written : (form : List (Row L)) → canonical same g ≡ written form →
       (now : List A) ×
       (visit same g.link 255 g.root [] ≡ some now) ×
-      (linkCount g.link now ≤ 2048) ×
+      (link_count g.link now ≤ 2048) ×
       (map (row_of same g (reverse now)) (reverse now) ≡ form)
   unfolding canonical
   canonical-written form e = go (visit same g.link 255 g.root []) refl e
     where
-      fits : (now : List A) (t : Bool) → leb (linkCount g.link now) 2048 ≡ t →
-          cond t (written (map (row_of same g (reverse now)) (reverse now))) manyLinks ≡ written form →
-          (linkCount g.link now ≤ 2048) × (map (row_of same g (reverse now)) (reverse now) ≡ form)
-      fits now true h q = (leb-true (linkCount g.link now) 2048 h, cc)
+      fits : (now : List A) (t : Bool) → leb (link_count g.link now) 2048 ≡ t →
+          cond t (written (map (row_of same g (reverse now)) (reverse now))) many_links ≡ written form →
+          (link_count g.link now ≤ 2048) × (map (row_of same g (reverse now)) (reverse now) ≡ form)
+      fits now true h q = (leb-true (link_count g.link now) 2048 h, cc)
       fits now false h q = let z : ◌≡◌ {A = ℕ} 0 1 = cc in absurd (omega arith)
 
       go : (o : Option (List A)) → visit same g.link 255 g.root [] ≡ o → counted same g o ≡ written form →
           (now : List A) ×
           (visit same g.link 255 g.root [] ≡ some now) ×
-          (linkCount g.link now ≤ 2048) ×
+          (link_count g.link now ≤ 2048) ×
           (map (row_of same g (reverse now)) (reverse now) ≡ form)
       go none h q = let z : ◌≡◌ {A = ℕ} 0 1 = cc in absurd (omega arith)
-      go (some now) h q = let (few, r) = fits now (leb (linkCount g.link now) 2048) refl q in (now, h, few, r)
+      go (some now) h q = let (few, r) = fits now (leb (link_count g.link now) 2048) refl q in (now, h, few, r)
 
 module _ {L A : Type 0} (same : A → A → Bool) (tells : TellsApart same) (g : Graph L A)
     (narrow : (v w : A) (f : ℕ) → Reached g v → g.link v f ≡ some w → f < 64) where
@@ -122,7 +122,7 @@ module _ {L A : Type 0} (same : A → A → Bool) (tells : TellsApart same) (g :
 
     row-at : (v : A) → Memᴰ v nodes → get_or rows (index_of same v nodes) (d, []) ≡ row_of same g nodes v
     unfolding rows
-    row-at v m = getD-index same tells (row_of same g nodes) (d, []) v nodes m
+    row-at v m = get_or-index same tells (row_of same g nodes) (d, []) v nodes m
 
     numbered-root : Numbered g.root 0
     unfolding Numbered nodes
@@ -141,7 +141,7 @@ module _ {L A : Type 0} (same : A → A → Bool) (tells : TellsApart same) (g :
     numbered_target : (v : A) (f : ℕ) → Memᴰ v nodes →
         (graph_of d rows).link (index_of same v nodes) f ≡ Option.map (λ w. index_of same w nodes) (g.link v f)
     unfolding row_of
-    numbered_target v f m = ap (λ (r : Row L). target r.1 f) (row-at v m) ∙ target-linksOf next next-narrow f
+    numbered_target v f m = ap (λ (r : Row L). target r.1 f) (row-at v m) ∙ target-links_of next next-narrow f
       where
         next : ℕ → Option ℕ
         next f' = Option.map (λ w. index_of same w nodes) (g.link v f')
@@ -183,26 +183,26 @@ module _ {L A : Type 0} (same : A → A → Bool) (tells : TellsApart same) (g :
         }
 
   module _ (d : L) (form : List (Row L)) (e : canonical same g ≡ written form) where
-    pub form-exact : Exact (λ v. index_of same v (writtenOrder same g)) g (graph_of d form)
-    unfolding rows nodes writtenOrder
+    pub form-exact : Exact (λ v. index_of same v (written_order same g)) g (graph_of d form)
+    unfolding rows nodes written_order
     form-exact =
         let (now, h, _, q) = canonical-written same g form e in
         subst (λ (o : Option (List A)). Exact (λ v. index_of same v (order_in o)) g (graph_of d form)) (sym h)
         (subst (λ (r : List (Row L)). Exact (λ v. index_of same v (reverse now)) g (graph_of d r)) q (numbered-exact d now h))
 
-    written_listed : (v : A) → Reached g v → Memᴰ v (writtenOrder same g)
-    unfolding nodes writtenOrder
+    written_listed : (v : A) → Reached g v → Memᴰ v (written_order same g)
+    unfolding nodes written_order
     written_listed v r =
         let (now, h, _, _) = canonical-written same g form e in
         subst (λ (o : Option (List A)). Memᴰ v (order_in o)) (sym h) (reached-listed d now h v r)
 
     -- A path of the rows leads, in the graph, to the node that stands at the number of its row.
-    pub form-walk : (o : A) (p : List ℕ) (k : ℕ) → walk (graph_of d form) p ≡ some k → walk g p ≡ some (get_or (writtenOrder same g) k o)
+    pub form-walk : (o : A) (p : List ℕ) (k : ℕ) → walk (graph_of d form) p ≡ some k → walk g p ≡ some (get_or (written_order same g) k o)
     form-walk o p k a =
-        let (v, b, at) = (map-eq-some_iff (λ x. index_of same x (writtenOrder same g)) (walk g p)).0 (sym (exact-walk form-exact p) ∙ a) in
-        b ∙ ap some (sym (ap (λ (j : ℕ). get_or (writtenOrder same g) j o) (sym at)
-        ∙ ap (λ (l : List A). get_or l (index_of same v (writtenOrder same g)) o) (sym (map-id (writtenOrder same g)))
-        ∙ getD-index same tells (λ x. x) o v (writtenOrder same g) (written_listed v (p, b))))
+        let (v, b, at) = (map-eq-some_iff (λ x. index_of same x (written_order same g)) (walk g p)).0 (sym (exact-walk form-exact p) ∙ a) in
+        b ∙ ap some (sym (ap (λ (j : ℕ). get_or (written_order same g) j o) (sym at)
+        ∙ ap (λ (l : List A). get_or l (index_of same v (written_order same g)) o) (sym (map-id (written_order same g)))
+        ∙ get_or-index same tells (λ x. x) o v (written_order same g) (written_listed v (p, b))))
 
   -- A path leads in the rows to the number of the node that it leads to.
   pub form-numbers : (d : L) (form : List (Row L)) → canonical same g ≡ written form →
@@ -246,7 +246,7 @@ pub canonical-exact : (𝓛 : Labels) {A B : Type 0} (sameA : A → A → Bool) 
     (g : Graph 𝓛.L A) (h : Graph 𝓛.L B) → ((v w : A) (f : ℕ) → Reached g v → g.link v f ≡ some w → f < 64) →
     ((v w : B) (f : ℕ) → Reached h v → h.link v f ≡ some w → f < 64) → (form : List (Row 𝓛.L)) → canonical sameA g ≡ written form →
     SameMeaning 𝓛 g h ↔ (canonical sameB h ≡ written form)
-canonical-exact 𝓛 sameA sameB tellsA tellsB g h narrowA narrowB form e = (
-  λ m. sym (same-canonical 𝓛 sameA sameB tellsA tellsB g h m) ∙ e,
-  λ q. same-trans (canonical-meaning 𝓛 sameA tellsA g narrowA form e) (same-sym (canonical-meaning 𝓛 sameB tellsB h narrowB form q)),
+canonical-exact 𝓛 sameA sameB tells_a tells_b g h narrowA narrowB form e = (
+  λ m. sym (same-canonical 𝓛 sameA sameB tells_a tells_b g h m) ∙ e,
+  λ q. same-trans (canonical-meaning 𝓛 sameA tells_a g narrowA form e) (same-sym (canonical-meaning 𝓛 sameB tells_b h narrowB form q)),
 )

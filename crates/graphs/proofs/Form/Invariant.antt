@@ -13,9 +13,9 @@ use lib.Dec.{leb}
 use lib.ListN.{length, get_or}
 use Rattle.graphs.specs.Label.{Labels}
 use Rattle.graphs.specs.Graph.{Graph, TellsApart, SameMeaning}
-use Rattle.graphs.specs.Rows.{Row, features, linksOf, addLink}
-use Rattle.graphs.specs.Number.{canonical, counted, countSome, each, enter, index_of, linkCount, member, otherwise, outDegree, row_of, visit, written, manyLinks}
-use Rattle.graphs.specs.Reasons.{order_in, writtenOrder}
+use Rattle.graphs.specs.Rows.{Row, features, links_of, add_link}
+use Rattle.graphs.specs.Number.{canonical, counted, count_some, each, enter, index_of, link_count, member, otherwise, out_degree, row_of, visit, written, many_links}
+use Rattle.graphs.specs.Reasons.{order_in, written_order}
 use Rattle.graphs.specs.Relations.{LiesOver}
 use Rattle.graphs.proofs.Form.Bisimilar.{Alike, absent, present, Bisimilar, same-bisimilar}
 use Rattle.graphs.proofs.Search.{same_test}
@@ -47,14 +47,14 @@ pointwise-listed empty w m = absurd (Memᴰ.not-nil m)
 pointwise-listed {P = P} (more r rs) w m =
     ⊎_elim (λ e. subst P (r.1 ∙ sym e) r.0) (λ n. pointwise-listed rs w n) (Memᴰ.cases_cons m)
 
-pointwise-reverseAux : {A B : Type 0} {R : A → B → Type 0} {vs xs : List A} {ws ys : List B} → Pointwise R vs ws →
+pointwise-reverse_aux : {A B : Type 0} {R : A → B → Type 0} {vs xs : List A} {ws ys : List B} → Pointwise R vs ws →
     Pointwise R xs ys → Pointwise R (reverse_aux vs xs) (reverse_aux ws ys)
-pointwise-reverseAux empty q = q
-pointwise-reverseAux (more r rs) q = pointwise-reverseAux rs (more r q)
+pointwise-reverse_aux empty q = q
+pointwise-reverse_aux (more r rs) q = pointwise-reverse_aux rs (more r q)
 
 pointwise-reverse : {A B : Type 0} {R : A → B → Type 0} {vs : List A} {ws : List B} → Pointwise R vs ws →
     Pointwise R (reverse vs) (reverse ws)
-pointwise-reverse q = pointwise-reverseAux q empty
+pointwise-reverse q = pointwise-reverse_aux q empty
 
 alike-bind : {A B X Y : Type 0} {R : A → B → Type 0} {S : X → Y → Type 0} {x : Option A} {y : Option B} {k : A → Option X}
     {l : B → Option Y} → Alike R x y → ((v : A) (w : B) → R v w → Alike S (k v) (l w)) → Alike S (bind x k) (bind y l)
@@ -69,18 +69,18 @@ alike-otherwise false false k l e r q = q
 alike-otherwise true false k l e r q = let z : ◌≡◌ {A = ℕ} 0 1 = cc in absurd (omega arith)
 alike-otherwise false true k l e r q = let z : ◌≡◌ {A = ℕ} 0 1 = cc in absurd (omega arith)
 
-pub linksOf-cong : (next onto : ℕ → Option ℕ) → ((f : ℕ) → next f ≡ onto f) → (fs : List ℕ) → linksOf next fs ≡ linksOf onto fs
-unfolding linksOf
-linksOf-cong next onto e [] = refl
-linksOf-cong next onto e (f ∷ fs) = ap₂ (addLink f) (e f) (linksOf-cong next onto e fs)
+pub links_of-cong : (next onto : ℕ → Option ℕ) → ((f : ℕ) → next f ≡ onto f) → (fs : List ℕ) → links_of next fs ≡ links_of onto fs
+unfolding links_of
+links_of-cong next onto e [] = refl
+links_of-cong next onto e (f ∷ fs) = ap₂ (add_link f) (e f) (links_of-cong next onto e fs)
 
-module _ {L A B : Type 0} (sameA : A → A → Bool) (sameB : B → B → Bool) (tellsA : TellsApart sameA) (tellsB : TellsApart sameB)
+module _ {L A B : Type 0} (sameA : A → A → Bool) (sameB : B → B → Bool) (tells_a : TellsApart sameA) (tells_b : TellsApart sameB)
     (R : A → B → Type 0) (g : Graph L A) (h : Graph L B) (b : Bisimilar R g h) where
   related_same : (v v' : A) (w w' : B) → R v w → R v' w' → sameA v v' ≡ sameB w w'
   related_same v v' w w' r r' =
       same_test (sameA v v') (sameB w w')
-      (λ e. (tellsB w w').1 (b.forth v v' w w' r r' ((tellsA v v').0 e)))
-      (λ e. (tellsA v v').1 (b.back v v' w w' r r' ((tellsB w w').0 e)))
+      (λ e. (tells_b w w').1 (b.forth v v' w w' r r' ((tells_a v v').0 e)))
+      (λ e. (tells_a v v').1 (b.back v v' w w' r r' ((tells_b w w').0 e)))
 
   related-member : {v : A} {w : B} {vs : List A} {ws : List B} → R v w → Pointwise R vs ws →
       member sameA v vs ≡ member sameB w ws
@@ -95,19 +95,19 @@ module _ {L A B : Type 0} (sameA : A → A → Bool) (sameB : B → B → Bool) 
   related-index {v} {w} r (more {v = v'} {w = w'} r' rs) =
       ap₂ (λ (t : Bool) (i : ℕ). cond t 0 (suc i)) (related_same v v' w w' r r') (related-index r rs)
 
-  related-count : {x : Option A} {y : Option B} → Alike R x y → countSome x ≡ countSome y
+  related-count : {x : Option A} {y : Option B} → Alike R x y → count_some x ≡ count_some y
   related-count absent = refl
   related-count (present r) = refl
 
-  related-outDegree : (v : A) (w : B) → R v w → (fs : List ℕ) → outDegree g.link v fs ≡ outDegree h.link w fs
-  unfolding outDegree
-  related-outDegree v w r [] = refl
-  related-outDegree v w r (f ∷ fs) = ap₂ ◌+◌ (related-count (b.links v w f r)) (related-outDegree v w r fs)
+  related-out_degree : (v : A) (w : B) → R v w → (fs : List ℕ) → out_degree g.link v fs ≡ out_degree h.link w fs
+  unfolding out_degree
+  related-out_degree v w r [] = refl
+  related-out_degree v w r (f ∷ fs) = ap₂ ◌+◌ (related-count (b.links v w f r)) (related-out_degree v w r fs)
 
-  related-linkCount : {vs : List A} {ws : List B} → Pointwise R vs ws → linkCount g.link vs ≡ linkCount h.link ws
-  unfolding linkCount
-  related-linkCount empty = refl
-  related-linkCount (more {v = v} {w = w} r rs) = ap₂ ◌+◌ (related-outDegree v w r features) (related-linkCount rs)
+  related-link_count : {vs : List A} {ws : List B} → Pointwise R vs ws → link_count g.link vs ≡ link_count h.link ws
+  unfolding link_count
+  related-link_count empty = refl
+  related-link_count (more {v = v} {w = w} r rs) = ap₂ ◌+◌ (related-out_degree v w r features) (related-link_count rs)
 
   related-map : {x : Option A} {y : Option B} {vs : List A} {ws : List B} → Alike R x y → Pointwise R vs ws →
       Option.map (λ u. index_of sameA u vs) x ≡ Option.map (λ u. index_of sameB u ws) y
@@ -118,7 +118,7 @@ module _ {L A B : Type 0} (sameA : A → A → Bool) (sameB : B → B → Bool) 
   unfolding row_of
   related-row v w {vs} {ws} r rs =
       ap₂ {C = Row L} (λ l ls. (l, ls)) (b.labels v w r)
-      (linksOf-cong (λ f. Option.map (λ u. index_of sameA u vs) (g.link v f)) (λ f. Option.map (λ u. index_of sameB u ws) (h.link w f))
+      (links_of-cong (λ f. Option.map (λ u. index_of sameA u vs) (g.link v f)) (λ f. Option.map (λ u. index_of sameB u ws) (h.link w f))
       (λ f. related-map (b.links v w f r) rs) features)
 
   related-rows : {vs xs : List A} {ws ys : List B} → Pointwise R vs ws → Pointwise R xs ys →
@@ -162,7 +162,7 @@ module _ {L A B : Type 0} (sameA : A → A → Bool) (sameB : B → B → Bool) 
   related-counted : {x : Option (List A)} {y : Option (List B)} → Alike (Pointwise R) x y → counted sameA g x ≡ counted sameB h y
   related-counted absent = refl
   related-counted (present rs) =
-      ap₂ (λ (n : ℕ) (rows : List (Row L)). cond (leb n 2048) (written rows) manyLinks) (related-linkCount rs)
+      ap₂ (λ (n : ℕ) (rows : List (Row L)). cond (leb n 2048) (written rows) many_links) (related-link_count rs)
       (related-rows (pointwise-reverse rs) (pointwise-reverse rs))
 
   -- Graphs that are alike have one written form.
@@ -175,12 +175,12 @@ module _ {L A B : Type 0} (sameA : A → A → Bool) (sameB : B → B → Bool) 
   related-order (present rs) = pointwise-reverse rs
 
   -- Graphs that are alike have their nodes numbered alike.
-  pub bisimilar-order : Pointwise R (writtenOrder sameA g) (writtenOrder sameB h)
-  unfolding writtenOrder Goes
+  pub bisimilar-order : Pointwise R (written_order sameA g) (written_order sameB h)
+  unfolding written_order Goes
   bisimilar-order = related-order (related-visit 255 g.root h.root [] [] b.root empty)
 
 -- Graphs of the same meaning have one written form, and are too large together.
 pub same-canonical : (𝓛 : Labels) {A B : Type 0} (sameA : A → A → Bool) (sameB : B → B → Bool) → TellsApart sameA → TellsApart sameB →
     (g : Graph 𝓛.L A) (h : Graph 𝓛.L B) → SameMeaning 𝓛 g h → canonical sameA g ≡ canonical sameB h
-same-canonical 𝓛 sameA sameB tellsA tellsB g h m =
-    bisimilar-canonical sameA sameB tellsA tellsB (LiesOver h g) g h (same-bisimilar 𝓛 g h m)
+same-canonical 𝓛 sameA sameB tells_a tells_b g h m =
+    bisimilar-canonical sameA sameB tells_a tells_b (LiesOver h g) g h (same-bisimilar 𝓛 g h m)

@@ -12,47 +12,47 @@ use native.Mathlib.Omega.{arith}
 use lib.ListN.{length, length-map, length-reverse}
 use Rattle.graphs.specs.Graph.{Graph, TellsApart, Reached}
 use Rattle.graphs.specs.Rows.{Row, features}
-use Rattle.graphs.specs.Number.{canonical, index_of, linkCount, row_of, visit, written}
-use Rattle.graphs.specs.Large.{Distinct, linksIn, Ascending}
+use Rattle.graphs.specs.Number.{canonical, index_of, link_count, row_of, visit, written}
+use Rattle.graphs.specs.Large.{Distinct, links_in, Ascending}
 use Rattle.graphs.proofs.Walk.{reached-root, reached-link}
 use Rattle.graphs.proofs.Lists.{features-small, mem-reverse, mem-unreverse, reverse_snoc, index-within}
-use Rattle.graphs.proofs.Rows.{linksOf-length, linksOf-source, linksOf-ascending}
+use Rattle.graphs.proofs.Rows.{links_of-length, links_of-source, links_of-ascending}
 use Rattle.graphs.proofs.Form.Visited.{visit-first}
 use Rattle.graphs.proofs.Form.Canonical.{canonical-written, seen-reached, reached-seen, seen-distinct, seen-short}
 
 -- The count of links does not depend on the order of the nodes.
 
-linkCount-append : {A : Type 0} (link : A → ℕ → Option A) (vs ws : List A) →
-    linkCount link (vs ++ ws) ≡ linkCount link vs + linkCount link ws
-unfolding linkCount
-linkCount-append link [] ws = omega arith
-linkCount-append link (v ∷ vs) ws = omega (arith, linkCount-append link vs ws)
+link_count-append : {A : Type 0} (link : A → ℕ → Option A) (vs ws : List A) →
+    link_count link (vs ++ ws) ≡ link_count link vs + link_count link ws
+unfolding link_count
+link_count-append link [] ws = omega arith
+link_count-append link (v ∷ vs) ws = omega (arith, link_count-append link vs ws)
 
-linkCount-reverse : {A : Type 0} (link : A → ℕ → Option A) (vs : List A) → linkCount link (reverse vs) ≡ linkCount link vs
-unfolding linkCount
-linkCount-reverse link [] = refl
-linkCount-reverse link (v ∷ vs) =
-    omega (arith, ap (linkCount link) (reverse-cons v vs), linkCount-append link (reverse vs) (v ∷ []), linkCount-reverse link vs)
+link_count-reverse : {A : Type 0} (link : A → ℕ → Option A) (vs : List A) → link_count link (reverse vs) ≡ link_count link vs
+unfolding link_count
+link_count-reverse link [] = refl
+link_count-reverse link (v ∷ vs) =
+    omega (arith, ap (link_count link) (reverse-cons v vs), link_count-append link (reverse vs) (v ∷ []), link_count-reverse link vs)
 
 module _ {L A : Type 0} (same : A → A → Bool) (g : Graph L A) where
   -- the rows have the links of the nodes
-  linksIn-rows : (nodes vs : List A) → linksIn (map (row_of same g nodes) vs) ≡ linkCount g.link vs
-  unfolding linksIn linkCount row_of
-  linksIn-rows nodes [] = refl
-  linksIn-rows nodes (v ∷ vs) =
-      omega (arith, linksOf-length g.link (λ w. index_of same w nodes) v features, linksIn-rows nodes vs)
+  links_in-rows : (nodes vs : List A) → links_in (map (row_of same g nodes) vs) ≡ link_count g.link vs
+  unfolding links_in link_count row_of
+  links_in-rows nodes [] = refl
+  links_in-rows nodes (v ∷ vs) =
+      omega (arith, links_of-length g.link (λ w. index_of same w nodes) v features, links_in-rows nodes vs)
 
   -- a row's link is a link of its node
   row-link : (nodes : List A) (v : A) (l : ℕ × ℕ) → Memᴰ l (row_of same g nodes v).1 →
       (l.0 < 64) × ((w : A) × (g.link v l.0 ≡ some w) × (index_of same w nodes ≡ l.1))
   unfolding row_of
   row-link nodes v l m =
-      let (k, q) = linksOf-source (λ f. Option.map (λ w. index_of same w nodes) (g.link v f)) features l m in
+      let (k, q) = links_of-source (λ f. Option.map (λ w. index_of same w nodes) (g.link v f)) features l m in
       (features-small l.0 k, (map-eq-some_iff (λ w. index_of same w nodes) (g.link v l.0)).0 q)
 
   row-ascending : (nodes : List A) (v : A) → Ascending (row_of same g nodes v).1
   unfolding row_of
-  row-ascending nodes v = linksOf-ascending (λ f. Option.map (λ w. index_of same w nodes) (g.link v f)) 0 64
+  row-ascending nodes v = links_of-ascending (λ f. Option.map (λ w. index_of same w nodes) (g.link v f)) 0 64
 
   row_label : (nodes : List A) (v : A) → (row_of same g nodes v).0 ≡ g.label v
   unfolding row_of
@@ -79,10 +79,10 @@ module _ {L A : Type 0} (same : A → A → Bool) (tells : TellsApart same) (g :
       let (now, h, _, q) = canonical-written same g form e in
       omega (arith, form-length now q, seen-short same tells g narrow now h)
 
-  pub form-links : linksIn form ≤ 2048
+  pub form-links : links_in form ≤ 2048
   form-links =
       let (now, _, few, q) = canonical-written same g form e in
-      omega (arith, ap linksIn q, linksIn-rows same g (reverse now) (reverse now), linkCount-reverse g.link now)
+      omega (arith, ap links_in q, links_in-rows same g (reverse now) (reverse now), link_count-reverse g.link now)
 
   -- the root's row is the first
   pub form-root : (r : Row L) × (rest : List (Row L)) × (form ≡ r ∷ rest) × (r.0 ≡ g.label g.root)

@@ -19,21 +19,21 @@ use mathlib.Core.Option.{Option, some, map-eq-some_iff}
 use Prim.Native.Nat.{ℕ, ◌<◌}
 use Rattle.graphs.specs.Label.{Labels}
 use Rattle.graphs.specs.Graph.{Graph, TellsApart, follow, walk, Reached, AnySize}
-use Rattle.graphs.specs.Unify.{Joined, left, right, flip, chain, down, beside, sameBeside, nodesBeside}
+use Rattle.graphs.specs.Unify.{Joined, left, right, flip, chain, down, beside, same_beside, nodes_beside}
 use Rattle.graphs.proofs.Walk.{some-injective, snoc-induction, follow-last, walk-snoc}
 use Rattle.graphs.proofs.Search.{true-false}
 use Rattle.graphs.proofs.Unification.Related.{Related, roots, back, next, feat, Listing}
 
-pub same_beside : {A B : Type 0} (s : A → A → Bool) (t : B → B → Bool) → TellsApart s → TellsApart t → TellsApart (sameBeside s t)
-same_beside s t hs ht (inl v) (inl w) = (λ e. ap inl ((hs v w).0 e), λ e. (hs v w).1 (inl-injective v w e))
-same_beside s t hs ht (inl v) (inr w) = (λ e. true-false e refl, λ e. absurd (inl-ne-inr e))
-same_beside s t hs ht (inr v) (inl w) = (λ e. true-false e refl, λ e. absurd (inr-ne-inl e))
-same_beside s t hs ht (inr v) (inr w) = (λ e. ap inr ((ht v w).0 e), λ e. (ht v w).1 (inr-injective v w e))
+pub same_beside_lem : {A B : Type 0} (s : A → A → Bool) (t : B → B → Bool) → TellsApart s → TellsApart t → TellsApart (same_beside s t)
+same_beside_lem s t hs ht (inl v) (inl w) = (λ e. ap inl ((hs v w).0 e), λ e. (hs v w).1 (inl-injective v w e))
+same_beside_lem s t hs ht (inl v) (inr w) = (λ e. true-false e refl, λ e. absurd (inl-ne-inr e))
+same_beside_lem s t hs ht (inr v) (inl w) = (λ e. true-false e refl, λ e. absurd (inr-ne-inl e))
+same_beside_lem s t hs ht (inr v) (inr w) = (λ e. ap inr ((ht v w).0 e), λ e. (ht v w).1 (inr-injective v w e))
 
 module _ {L A B : Type 0} (g : Graph L A) (h : Graph L B) where
   -- the links of both graphs
-  abbrev pub linkBeside : A ⊎ B → ℕ → Option (A ⊎ B)
-  linkBeside = beside g.link h.link
+  abbrev pub link_beside : A ⊎ B → ℕ → Option (A ⊎ B)
+  link_beside = beside g.link h.link
 
   -- the path leads to the node in the node's own graph
   abbrev pub Leads : List ℕ → A ⊎ B → Type 0
@@ -46,14 +46,14 @@ module _ {L A B : Type 0} (g : Graph L A) (h : Graph L B) where
 
   -- the smallest equivalence on the nodes of both graphs that relates the roots and passes down equal features
   abbrev pub RelatedBeside : A ⊎ B → A ⊎ B → Type 0
-  RelatedBeside = Related linkBeside (inl g.root) (inr h.root)
+  RelatedBeside = Related link_beside (inl g.root) (inr h.root)
 
   pub leads-nil : (x : A ⊎ B) → Leads [] x → (x ≡ inl g.root) ⊎ (x ≡ inr h.root)
   unfolding follow
   leads-nil (inl v) e = inl (ap inl (sym (some-injective e)))
   leads-nil (inr w) e = inr (ap inr (sym (some-injective e)))
 
-  pub leads-step : (p : List ℕ) (f : ℕ) (x y : A ⊎ B) → Leads p x → linkBeside x f ≡ some y → Leads (p ++ (f ∷ [])) y
+  pub leads-step : (p : List ℕ) (f : ℕ) (x y : A ⊎ B) → Leads p x → link_beside x f ≡ some y → Leads (p ++ (f ∷ [])) y
   leads-step p f (inl v) y e d =
       let (w, a, b) = (map-eq-some_iff inl (g.link v f)).0 d in
       subst (Leads (p ++ (f ∷ []))) b (walk-snoc g p f e ∙ a)
@@ -62,7 +62,7 @@ module _ {L A B : Type 0} (g : Graph L A) (h : Graph L B) where
       subst (Leads (p ++ (f ∷ []))) b (walk-snoc h p f e ∙ a)
 
   pub leads-last : (p : List ℕ) (f : ℕ) (y : A ⊎ B) → Leads (p ++ (f ∷ [])) y →
-      (x : A ⊎ B) × Leads p x × (linkBeside x f ≡ some y)
+      (x : A ⊎ B) × Leads p x × (link_beside x f ≡ some y)
   leads-last p f (inl w) e =
       let (v, a, b) = follow-last g.link (some g.root) p f w e in
       (inl v, a, ap (Option.map inl) b)
@@ -137,14 +137,14 @@ any-size-operands s t a b =
 
 module _ {L A B : Type 0} {sameA : A → A → Bool} {sameB : B → B → Bool} {g : Graph L A} {gs : List A} {h : Graph L B} {hs : List B}
     (given : Operands sameA sameB g gs h hs) where
-  pub tells-beside : TellsApart (sameBeside sameA sameB)
-  tells-beside = same_beside sameA sameB given.tells-left given.tells-right
+  pub tells-beside : TellsApart (same_beside sameA sameB)
+  tells-beside = same_beside_lem sameA sameB given.tells-left given.tells-right
 
-  pub reached-listed : (x : A ⊎ B) → ReachedBeside g h x → Memᴰ x (nodesBeside gs hs)
+  pub reached-listed : (x : A ⊎ B) → ReachedBeside g h x → Memᴰ x (nodes_beside gs hs)
   reached-listed (inl v) r = Memᴰ.append_left (map inr hs) (Memᴰ.map inl ((given.lists-left.listed v).0 r))
   reached-listed (inr v) r = Memᴰ.append_right (map inl gs) (Memᴰ.map inr ((given.lists-right.listed v).0 r))
 
-  pub listed-reached : (x : A ⊎ B) → Memᴰ x (nodesBeside gs hs) → ReachedBeside g h x
+  pub listed-reached : (x : A ⊎ B) → Memᴰ x (nodes_beside gs hs) → ReachedBeside g h x
   listed-reached x m = go (Memᴰ.append_cases (map inl gs) m)
     where
       go : Memᴰ x (map inl gs) ⊎ Memᴰ x (map inr hs) → ReachedBeside g h x
@@ -155,7 +155,7 @@ module _ {L A B : Type 0} {sameA : A → A → Bool} {sameB : B → B → Bool} 
           let (v, k, e) = Memᴰ.of_map inr hs n in
           subst (ReachedBeside g h) e ((given.lists-right.listed v).1 k)
 
-  pub feature-beside : (x y : A ⊎ B) (f : ℕ) → ReachedBeside g h x → linkBeside g h x f ≡ some y → f < 64
+  pub feature-beside : (x y : A ⊎ B) (f : ℕ) → ReachedBeside g h x → link_beside g h x f ≡ some y → f < 64
   feature-beside (inl v) y f r d =
       let (w, a, b) = (map-eq-some_iff inl (g.link v f)).0 d in
       given.lists-left.features v w f r a
@@ -163,7 +163,7 @@ module _ {L A B : Type 0} {sameA : A → A → Bool} {sameB : B → B → Bool} 
       let (w, a, b) = (map-eq-some_iff inr (h.link v f)).0 d in
       given.lists-right.features v w f r a
 
-  pub beside-listing : Listing (linkBeside g h) (inl g.root) (inr h.root) (nodesBeside gs hs)
+  pub beside-listing : Listing (link_beside g h) (inl g.root) (inr h.root) (nodes_beside gs hs)
   unfolding follow
   beside-listing =
       record {

@@ -22,8 +22,8 @@ use Rattle.graphs.proofs.Search.{
   true-or-false,
   cond-some,
   listed-length,
-  firstOf-some,
-  firstOf-none,
+  first_of-some,
+  first_of-none,
   select-listed,
   select-length,
   select-fewer-strict,
@@ -96,8 +96,8 @@ module _ {N : Type 0} {same : N → N → Bool} (tells : TellsApart same) (link 
   abbrev split : N → N → Option (N × N)
   split x y = first_of features λ f. apart same name (both (link x f) (link y f))
 
-  abbrev splitOfOne : N → N → Option (N × N)
-  splitOfOne x y = cond (same (name x) (name y)) (split x y) none
+  abbrev split_of_one : N → N → Option (N × N)
+  split_of_one x y = cond (same (name x) (name y)) (split x y) none
 
   -- two nodes of different classes, the targets by one feature of two nodes of one class
   record Unsettled (v w : N) : Type 0 where
@@ -114,10 +114,10 @@ module _ {N : Type 0} {same : N → N → Bool} (tells : TellsApart same) (link 
   unsettled-some : (v w : N) → unsettled same link nodes name ≡ some (v, w) → Unsettled v w
   unfolding unsettled
   unsettled-some v w e =
-      let (x, m, e1) = firstOf-some (λ x. first_of nodes λ y. splitOfOne x y) nodes (v, w) e in
-      let (y, n, e2) = firstOf-some (λ y. splitOfOne x y) nodes (v, w) e1 in
+      let (x, m, e1) = first_of-some (λ x. first_of nodes λ y. split_of_one x y) nodes (v, w) e in
+      let (y, n, e2) = first_of-some (λ y. split_of_one x y) nodes (v, w) e1 in
       let (q, e3) = cond-some (same (name x) (name y)) (split x y) (v, w) e2 in
-      let (f, k, e4) = firstOf-some (λ f. apart same name (both (link x f) (link y f))) features (v, w) e3 in
+      let (f, k, e4) = first_of-some (λ f. apart same name (both (link x f) (link y f))) features (v, w) e3 in
       let (e5, d) = apart_some tells name (both (link x f) (link y f)) v w e4 in
       let (a, b) = both_some (link x f) (link y f) e5 in
       record {
@@ -137,10 +137,10 @@ module _ {N : Type 0} {same : N → N → Bool} (tells : TellsApart same) (link 
       name x ≡ name y → f < 64 → link x f ≡ some v → link y f ≡ some w → name v ≡ name w
   unfolding unsettled
   settled e x y v w f m n q k a b =
-      let e1 = firstOf-none (λ x. first_of nodes λ y. splitOfOne x y) nodes e x m in
-      let e2 = firstOf-none (λ y. splitOfOne x y) nodes e1 y n in
+      let e1 = first_of-none (λ x. first_of nodes λ y. split_of_one x y) nodes e x m in
+      let e2 = first_of-none (λ y. split_of_one x y) nodes e1 y n in
       let e3 : split x y ≡ none = sym (ap (λ c. cond c (split x y) none) ((tells (name x) (name y)).1 q)) ∙ e2 in
-      let e4 = firstOf-none (λ f. apart same name (both (link x f) (link y f))) features e3 f (mem-features f k) in
+      let e4 = first_of-none (λ f. apart same name (both (link x f) (link y f))) features e3 f (mem-features f k) in
       apart_none tells name v w (rw (a, b) at e4)
 
 -- Rounds.

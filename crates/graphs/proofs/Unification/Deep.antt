@@ -22,7 +22,7 @@ use Rattle.graphs.specs.Unify.{holds, deep}
 use Rattle.graphs.proofs.Walk.{none-some, follow-none, follow-append, follow-start}
 use Rattle.graphs.proofs.Below.{member-decided}
 use Rattle.graphs.proofs.Lists.{remove, mem-features}
-use Rattle.graphs.proofs.Search.{true-false, listed-length, anyOf-true, anyOf-finds}
+use Rattle.graphs.proofs.Search.{true-false, listed-length, any_of-true, any_of-finds}
 
 module _ {N : Type 0} (link : N → ℕ → Option N) where
   -- a node that a walk leads to and that reaches itself
@@ -35,7 +35,7 @@ module _ {N : Type 0} (link : N → ℕ → Option N) where
   unfolding deep follow
   deep-walk zero v e = ([], v, refl, refl)
   deep-walk (suc k) v e =
-      let (f, _, d) = anyOf-true (λ f. holds (deep link k) (link v f)) features e in
+      let (f, _, d) = any_of-true (λ f. holds (deep link k) (link v f)) features e in
       go f (link v f) refl d (deep-walk k)
     where
       go : (f : ℕ) (o : Option N) → link v f ≡ o → holds (deep link k) o ≡ true →
@@ -53,7 +53,7 @@ module _ {N : Type 0} (link : N → ℕ → Option N) where
   walk-deep (suc k) v [] x small e h = absurd (omega arith)
   walk-deep (suc k) v (f ∷ p) x small e h =
       let (w, d) = follow-start link (link v f) p x e in
-      anyOf-finds (λ f. holds (deep link k) (link v f)) features f (mem-features f (small [] v w f refl d))
+      any_of-finds (λ f. holds (deep link k) (link v f)) features f (mem-features f (small [] v w f refl d))
       (ap (holds (deep link k)) d ∙ walk-deep k w p x
       (λ q y z i a b. small (f ∷ q) y z i (ap (λ o. follow link o q) d ∙ a) b)
       (ap (λ o. follow link o p) (sym d) ∙ e) (omega arith))

@@ -16,24 +16,24 @@ use Rattle.graphs.specs.Unify.{
   Cycle,
   Clash,
   IsUnification,
-  sameBeside,
-  nodesBeside,
+  same_beside,
+  nodes_beside,
   any_of,
   deep,
-  className,
-  classGraph,
-  hasCycle,
-  hasClash,
+  class_name,
+  class_graph,
+  has_cycle,
+  has_clash,
   Unified,
   cycle,
   clash,
   unified,
-  unificationBy,
+  unification_by,
   unification,
 }
 use Rattle.graphs.specs.Difference.{select}
 use Rattle.graphs.proofs.Below.{below-trans}
-use Rattle.graphs.proofs.Search.{true-false, not-true-false, anyOf-true, anyOf-finds, select-listed}
+use Rattle.graphs.proofs.Search.{true-false, not-true-false, any_of-true, any_of-finds, select-listed}
 use Rattle.graphs.proofs.Unification.Unifier.{
   below-no-cycle,
   below-no-clash,
@@ -74,18 +74,18 @@ false-not {b} (there, back) = (λ e p. true-false (back p) e, λ h. not-true-fal
 module _ {𝓛 : Labels} (lattice : Lattice 𝓛) {A B : Type 0} {sameA : A → A → Bool} {sameB : B → B → Bool}
     {g : Graph 𝓛.L A} {gs : List A} {h : Graph 𝓛.L B} {hs : List B} (given : Operands sameA sameB g gs h hs) where
   abbrev name : A ⊎ B → A ⊎ B
-  name = className sameA sameB g gs h hs
+  name = class_name sameA sameB g gs h hs
 
   abbrev u : Graph 𝓛.L (A ⊎ B)
-  u = classGraph 𝓛.meet 𝓛.top sameA sameB g gs h hs
+  u = class_graph 𝓛.meet 𝓛.top sameA sameB g gs h hs
 
   abbrev nodes : List (A ⊎ B)
-  nodes = nodesBeside gs hs
+  nodes = nodes_beside gs hs
 
   abbrev clashes : Bool
-  clashes = hasClash 𝓛.meet 𝓛.top 𝓛.contradiction sameA sameB g gs h hs
+  clashes = has_clash 𝓛.meet 𝓛.top 𝓛.contradiction sameA sameB g gs h hs
 
-  tells : TellsApart (sameBeside sameA sameB)
+  tells : TellsApart (same_beside sameA sameB)
   tells = tells-beside given
 
   nodes-length : length nodes ≡ length gs + length hs
@@ -94,8 +94,8 @@ module _ {𝓛 : Labels} (lattice : Lattice 𝓛) {A B : Type 0} {sameA : A → 
   is : IsUnification 𝓛 g h u
   is = class-unification lattice given
 
-  pub has-cycle : (hasCycle sameA sameB g gs h hs ≡ true) ↔ Cycle 𝓛 g h
-  unfolding hasCycle classGraph
+  pub has-cycle : (has_cycle sameA sameB g gs h hs ≡ true) ↔ Cycle 𝓛 g h
+  unfolding has_cycle class_graph
   has-cycle = (found, finds)
     where
       n : ℕ
@@ -105,7 +105,7 @@ module _ {𝓛 : Labels} (lattice : Lattice 𝓛) {A B : Type 0} {sameA : A → 
       found e =
           let (p, x, k, a) = deep-walk u.link n u.root e in
           (unification-cycle is).1
-          (long-loop u.link (sameBeside sameA sameB) tells p u.root x nodes
+          (long-loop u.link (same_beside sameA sameB) tells p u.root x nodes
           (λ q y d. ((class-reached lattice given y).0 (q, d)).0) a (omega (arith, nodes-length)))
 
       finds : Cycle 𝓛 g h → deep u.link n u.root ≡ true
@@ -114,7 +114,7 @@ module _ {𝓛 : Labels} (lattice : Lattice 𝓛) {A B : Type 0} {sameA : A → 
           walk-deep u.link n u.root p x (λ q y z f d e. class-features lattice given y z f (q, d) e) e k
 
   pub has-clash : (clashes ≡ true) ↔ Clash 𝓛 g h
-  unfolding hasClash
+  unfolding has_clash
   has-clash = (found, finds)
     where
       test : A ⊎ B → Bool
@@ -122,7 +122,7 @@ module _ {𝓛 : Labels} (lattice : Lattice 𝓛) {A B : Type 0} {sameA : A → 
 
       found : any_of nodes test ≡ true → Clash 𝓛 g h
       found e =
-          let (x, m, c) = anyOf-true test nodes e in
+          let (x, m, c) = any_of-true test nodes e in
           (unification-clash is lattice).1
           (name x, (quotient-reached (class-quotient lattice given) (name x)).1 (x, listed-reached given x m, refl), c)
 
@@ -130,7 +130,7 @@ module _ {𝓛 : Labels} (lattice : Lattice 𝓛) {A B : Type 0} {sameA : A → 
       finds k =
           let (x, r, c) = (unification-clash is lattice).0 k in
           let (m, e) = (class-reached lattice given x).0 r in
-          anyOf-finds test nodes x m (ap (λ z. 𝓛.contradiction (u.label z)) e ∙ c)
+          any_of-finds test nodes x m (ap (λ z. 𝓛.contradiction (u.label z)) e ∙ c)
 
   -- Without cycle and clash the classes are a graph of any size; its nodes are those that name a class.
   pub class-any-size : (Cycle 𝓛 g h → ⊥) → (Clash 𝓛 g h → ⊥) → AnySize 𝓛 u
@@ -152,30 +152,30 @@ module _ {𝓛 : Labels} (lattice : Lattice 𝓛) {A B : Type 0} {sameA : A → 
       }
     where
       named : A ⊎ B → Bool
-      named x = sameBeside sameA sameB (name x) x
+      named x = same_beside sameA sameB (name x) x
 
   -- The three answers.
 
-  no-cycle : (hasCycle sameA sameB g gs h hs ≡ false) ↔ (Cycle 𝓛 g h → ⊥)
+  no-cycle : (has_cycle sameA sameB g gs h hs ≡ false) ↔ (Cycle 𝓛 g h → ⊥)
   no-cycle = false-not has-cycle
 
   no-clash : (clashes ≡ false) ↔ (Clash 𝓛 g h → ⊥)
   no-clash = false-not has-clash
 
   pub answers-cycle : (unification 𝓛 sameA sameB g gs h hs ≡ cycle) ↔ Cycle 𝓛 g h
-  unfolding unificationBy
-  answers-cycle = Iff.trans (answer-cycle (hasCycle sameA sameB g gs h hs) clashes u) has-cycle
+  unfolding unification_by
+  answers-cycle = Iff.trans (answer-cycle (has_cycle sameA sameB g gs h hs) clashes u) has-cycle
 
   pub answers-clash : (unification 𝓛 sameA sameB g gs h hs ≡ clash) ↔ ((Cycle 𝓛 g h → ⊥) × Clash 𝓛 g h)
-  unfolding unificationBy
+  unfolding unification_by
   answers-clash =
-      Iff.trans (answer-clash (hasCycle sameA sameB g gs h hs) clashes u) (Iff.and no-cycle has-clash)
+      Iff.trans (answer-clash (has_cycle sameA sameB g gs h hs) clashes u) (Iff.and no-cycle has-clash)
 
   pub answers-graph : (v : Graph 𝓛.L (A ⊎ B)) →
       (unification 𝓛 sameA sameB g gs h hs ≡ unified v) ↔ ((Cycle 𝓛 g h → ⊥) × (Clash 𝓛 g h → ⊥) × (u ≡ v))
-  unfolding unificationBy
+  unfolding unification_by
   answers-graph v =
-      let (there, back) = answer-graph (hasCycle sameA sameB g gs h hs) clashes u v in
+      let (there, back) = answer-graph (has_cycle sameA sameB g gs h hs) clashes u v in
       (λ e. let (a, b, c) = there e in (no-cycle.0 a, no-clash.0 b, c), λ (a, b, c). back (no-cycle.1 a, no-clash.1 b, c))
 
   -- An answered graph is of any size, and the unification; so it is the greatest below both (`unification-greatest`).
@@ -201,7 +201,7 @@ unification-monotone {𝓛} lattice {sameA' = sameA'} {sameB'} {g'} {gs'} {h'} {
     let (size, is) = graph-right lattice given v e in
     let left = below-trans lattice (unification-left is) b in
     let right = below-trans lattice (unification-right is) c in (
-      classGraph 𝓛.meet 𝓛.top sameA' sameB' g' gs' h' hs',
+      class_graph 𝓛.meet 𝓛.top sameA' sameB' g' gs' h' hs',
       bounded-graph lattice given' size left right,
       unification-greatest left right (class-unification lattice given'),
     )

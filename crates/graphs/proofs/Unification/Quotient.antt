@@ -10,7 +10,7 @@ use mathlib.Core.Option.{some}
 use Prim.Native.Nat.{ℕ}
 use Rattle.graphs.specs.Label.{Labels}
 use Rattle.graphs.specs.Graph.{Graph, follow, walk, Reached, Corefer}
-use Rattle.graphs.specs.Unify.{Joined, left, flip, chain, down, UnderClass, ClassMeet, IsUnification, labelBeside}
+use Rattle.graphs.specs.Unify.{Joined, left, flip, chain, down, UnderClass, ClassMeet, IsUnification, label_beside}
 use Rattle.graphs.proofs.Walk.{some-injective, some-unique, snoc-induction, follow-last, walk-snoc}
 use Rattle.graphs.proofs.Unification.Related.{roots}
 use Rattle.graphs.proofs.Unification.Unifier.{joined-least}
@@ -18,7 +18,7 @@ use Rattle.graphs.proofs.Unification.Beside.{
   Leads,
   ReachedBeside,
   RelatedBeside,
-  linkBeside,
+  link_beside,
   leads-nil,
   leads-step,
   leads-last,
@@ -35,13 +35,13 @@ module _ (𝓛 : Labels) {A B C : Type 0} (g : Graph 𝓛.L A) (h : Graph 𝓛.L
     pub one : {x y : A ⊎ B} → RelatedBeside g h x y → to x ≡ to y
     pub related : (x y : A ⊎ B) → ReachedBeside g h x → ReachedBeside g h y → to x ≡ to y → RelatedBeside g h x y
     -- the links of a class are those of its nodes
-    pub links : (x y : A ⊎ B) (f : ℕ) → ReachedBeside g h x → linkBeside g h x f ≡ some y → u.link (to x) f ≡ some (to y)
+    pub links : (x y : A ⊎ B) (f : ℕ) → ReachedBeside g h x → link_beside g h x f ≡ some y → u.link (to x) f ≡ some (to y)
     pub sources : (x : A ⊎ B) (d : C) (f : ℕ) → ReachedBeside g h x → u.link (to x) f ≡ some d →
-        (y : A ⊎ B) × (z : A ⊎ B) × ReachedBeside g h y × (to y ≡ to x) × (linkBeside g h y f ≡ some z) × (to z ≡ d)
+        (y : A ⊎ B) × (z : A ⊎ B) × ReachedBeside g h y × (to y ≡ to x) × (link_beside g h y f ≡ some z) × (to z ≡ d)
     -- the label of a class is the meet of its nodes' labels
-    pub below : (x : A ⊎ B) → ReachedBeside g h x → 𝓛.le (u.label (to x)) (labelBeside g.label h.label x) ≡ true
+    pub below : (x : A ⊎ B) → ReachedBeside g h x → 𝓛.le (u.label (to x)) (label_beside g.label h.label x) ≡ true
     pub greatest : (x : A ⊎ B) (b : 𝓛.L) → ReachedBeside g h x →
-        ((y : A ⊎ B) → ReachedBeside g h y → to y ≡ to x → 𝓛.le b (labelBeside g.label h.label y) ≡ true) →
+        ((y : A ⊎ B) → ReachedBeside g h y → to y ≡ to x → 𝓛.le b (label_beside g.label h.label y) ≡ true) →
         𝓛.le b (u.label (to x)) ≡ true
 
 module _ {𝓛 : Labels} {A B C : Type 0} {g : Graph 𝓛.L A} {h : Graph 𝓛.L B} {to : A ⊎ B → C} {u : Graph 𝓛.L C}
@@ -130,7 +130,7 @@ module _ {𝓛 : Labels} {A B C : Type 0} {g : Graph 𝓛.L A} {h : Graph 𝓛.L
       }
     where
       label : A ⊎ B → 𝓛.L
-      label = labelBeside g.label h.label
+      label = label_beside g.label h.label
 
       under : (q : List ℕ) (x : A ⊎ B) → Leads g h q x → Joined g h p q → 𝓛.le (u.label c) (label x) ≡ true
       under q x a j =

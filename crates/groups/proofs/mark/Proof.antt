@@ -3,7 +3,7 @@ use mathlib.Core.Path.{sym, ◌∙◌}
 use Prim.Native.Nat.{ℕ, ◌+◌, ◌-◌, ◌≤◌}
 use native.Mathlib.Omega.{arith}
 use lib.ListN.{length-replicate, get_or-replicate}
-use Rattle.layout.specs.Layout.{rowFrom}
+use Rattle.layout.specs.Layout.{row_from}
 use Rattle.groups.specs.Marks.{Owned, Marking}
 use Rattle.groups.proofs.Marking.{InRow, marking-start, marking-all, row-start, row-place, row_within, row_next, row_done}
 use Rattle.groups.proofs.mark.Statement.{statement}
@@ -17,7 +17,7 @@ abbrev decreases-loop2 : tie.decreases-loop2
 decreases-loop2 s owner parent rank marks₀ lead₀ nodes v end k₀ marks lead k = end - k
 
 abbrev invariant-loop : tie.invariant-loop
-invariant-loop s owner parent rank marks₀ lead₀ nodes v₀ marks lead v = (v ≤ nodes) × Owned s owner parent × Marking s owner parent rank (rowFrom s v) lead marks
+invariant-loop s owner parent rank marks₀ lead₀ nodes v₀ marks lead v = (v ≤ nodes) × Owned s owner parent × Marking s owner parent rank (row_from s v) lead marks
 
 abbrev decreases-loop : tie.decreases-loop
 decreases-loop s owner parent rank marks₀ lead₀ nodes v₀ marks lead v = nodes - v

@@ -4,7 +4,7 @@ use Prim.Native.Nat.{ℕ, ◌-◌, ◌≤◌}
 use native.Mathlib.Omega.{arith}
 use borrow.Author.Rules.{rules}
 use lib.ListN.{length-replicate}
-use Rattle.layout.specs.Layout.{rowFrom}
+use Rattle.layout.specs.Layout.{row_from}
 use Rattle.classes.proofs.Roots.{flattened}
 use Rattle.cover.specs.Cover.{Grouping}
 use Rattle.cover.proofs.Covering.{grouping-start, grouping-row, grouping-end, grouping-same}
@@ -19,7 +19,7 @@ use Rattle.groups.proofs.mark.Reads as mark-reads
 use Rattle.link_orders.proofs.ranks.Reads as ranks-reads
 
 abbrev invariant-loop : tie.invariant-loop
-invariant-loop s g map order owner₀ marks parent₀ nodes y₀ owner parent y = (y ≤ nodes) × Grouping s g map (rowFrom g y) owner parent
+invariant-loop s g map order owner₀ marks parent₀ nodes y₀ owner parent y = (y ≤ nodes) × Grouping s g map (row_from g y) owner parent
 
 abbrev decreases-loop : tie.decreases-loop
 decreases-loop s g map order owner₀ marks parent₀ nodes y₀ owner parent y = nodes - y

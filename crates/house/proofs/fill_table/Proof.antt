@@ -5,19 +5,19 @@ use lib.ListN.{length, length-set}
 use lib.Seq.{sets}
 use borrow.Author.Rules.{rules}
 use borrow.Author.Tests.{le-leb, lt-leb}
-use Rattle.house.specs.House.{houseTable, answerWith}
+use Rattle.house.specs.House.{house_table, answer_with}
 use Rattle.house.proofs.Filling.{left, fill_start, fill_step, fill_end, fill_none}
 use Rattle.house.proofs.fill_table.Statement.{statement}
 use Rattle.house.proofs.fill_table.Tie as tie
 
 abbrev invariant-loop : tie.invariant-loop
-invariant-loop out₀ k₀ out k = (k ≤ 512) × (512 ≤ length out₀) × (length out ≡ length out₀) × (sets out₀ 0 houseTable ≡ left out k)
+invariant-loop out₀ k₀ out k = (k ≤ 512) × (512 ≤ length out₀) × (length out ≡ length out₀) × (sets out₀ 0 house_table ≡ left out k)
 
 abbrev decreases-loop : tie.decreases-loop
 decreases-loop out₀ k₀ out k = 512 - k
 
 returns : tie.Need-returns invariant-loop decreases-loop
-returns c = ap₂ answerWith (sym (lt-leb _ _ c.if1.true)) (fill_none _ c.if1.true)
+returns c = ap₂ answer_with (sym (lt-leb _ _ c.if1.true)) (fill_none _ c.if1.true)
 
 loop-holds : tie.Need-loop-init invariant-loop decreases-loop
 loop-holds c = (search rules, search rules, refl, fill_start _)
@@ -49,7 +49,7 @@ same_length c = search rules
 returns-2 : tie.Need-returns-2 invariant-loop decreases-loop
 returns-2 c =
     let turn = c.before.loop in
-    ap₂ answerWith (sym (le-leb _ _ turn.invariant.1)) (fill_end _ turn.out turn.k c.loop-test.false turn.invariant.1 turn.invariant.3)
+    ap₂ answer_with (sym (le-leb _ _ turn.invariant.1)) (fill_end _ turn.out turn.k c.loop-test.false turn.invariant.1 turn.invariant.3)
 
 pub fill-table-spec : {M : Type 1} → statement M
 fill-table-spec =

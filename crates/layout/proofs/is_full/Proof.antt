@@ -7,14 +7,14 @@ use borrow.Author.Rules.{rules}
 use borrow.Author.Tests.{eq-eqb, eqb-true}
 use lib.Dec.{eqb}
 use Rattle.graphs.proofs.Search.{both_true, same_test, true-both}
-use Rattle.lattice.specs.Label.{Label, isFull}
+use Rattle.lattice.specs.Label.{Label, is_full}
 use Rattle.layout.specs.Layout.{levels}
 use Rattle.layout.specs.Builder.{stated}
 use Rattle.layout.proofs.is_full.Statement.{statement}
 use Rattle.layout.proofs.is_full.Tie as tie
 
-full-word : (l : Label) → l.highest ≤ 255 → eqb (l.lowest * levels + l.highest) 255 ≡ isFull l
-unfolding isFull
+full-word : (l : Label) → l.highest ≤ 255 → eqb (l.lowest * levels + l.highest) 255 ≡ is_full l
+unfolding is_full
 full-word l h =
     same_test (eqb (l.lowest * levels + l.highest) 255) (eqb l.lowest 0 && eqb l.highest 255)
     (λ e.

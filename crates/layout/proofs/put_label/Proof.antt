@@ -3,7 +3,7 @@ use borrow.Author.Rules.{rules}
 use mathlib.Core.Path.{refl}
 use native.Mathlib.Omega.{arith}
 use lib.ListN.{length-set}
-use Rattle.layout.specs.Builder.{putLabel}
+use Rattle.layout.specs.Builder.{put_label}
 use Rattle.layout.proofs.put_label.Statement.{statement}
 use Rattle.layout.proofs.put_label.Tie as tie
 
@@ -55,7 +55,7 @@ same_length c = search rules
 
 -- src/lib.rt:34:1
 returns : tie.Need-returns
-unfolding putLabel
+unfolding put_label
 returns c = refl
 
 pub put-label-spec : {M : Type 1} → statement M

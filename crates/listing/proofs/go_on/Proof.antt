@@ -2,7 +2,7 @@
 use mathlib.Core.Path.{sym, ◌∙◌}
 use borrow.Author.Tests.{not-false}
 use borrow.Author.Rules.{rules}
-use Rattle.listing.specs.Numbers.{numberList}
+use Rattle.listing.specs.Numbers.{number_list}
 use Rattle.listing.proofs.Continued.{count-refused, count_kept, counts, denied, not-raised, raised-to, run-written, refused, ends, goes_on, next-written}
 use Rattle.listing.proofs.go_on.Statement.{statement}
 use Rattle.listing.proofs.go_on.Tie as tie
@@ -28,7 +28,7 @@ returns-2 c =
     let f = counts start.args.features numbered.before.before.is-count.ensures numbered.before.if1.false in
     count_kept start.args.features numbered.before.before.is-count.ensures numbered.before.if1.false start.args.out.now
     (refused start.args.n start.args.features start.args.out.now start.requires.0 start.requires.1 f start.args.bytes.now start.requires.2
-    (numberList numbered.Numbers-of.result) numbered.Numbers-of.ensures
+    (number_list numbered.Numbers-of.result) numbered.Numbers-of.ensures
     (λ r q. denied c.if2.true (c.before.are-within.ensures.1 r)))
 
 is-record-requires : tie.Need-is-record-requires
@@ -46,7 +46,7 @@ returns-3 c =
     let f = counts start.args.features numbered.before.before.is-count.ensures numbered.before.if1.false in
     count_kept start.args.features numbered.before.before.is-count.ensures numbered.before.if1.false start.args.out.now
     (refused start.args.n start.args.features start.args.out.now start.requires.0 start.requires.1 f start.args.bytes.now start.requires.2
-    (numberList numbered.Numbers-of.result) numbered.Numbers-of.ensures
+    (number_list numbered.Numbers-of.result) numbered.Numbers-of.ensures
     (λ r q. denied c.if3.true (c.before.is-record.ensures.1 q)))
 
 raise-requires : tie.Need-raise-requires
@@ -63,7 +63,7 @@ returns-4 c =
     let same = compared.before.is-record.ensures.0 (not-false _ compared.if3.false) in
     count_kept start.args.features numbered.before.before.is-count.ensures numbered.before.if1.false start.args.out.now
     (ends start.args.n start.args.features start.args.out.now start.requires.0 start.requires.1 f start.args.bytes.now start.requires.2
-    (numberList numbered.Numbers-of.result) numbered.Numbers-of.ensures run same
+    (number_list numbered.Numbers-of.result) numbered.Numbers-of.ensures run same
     (sym c.before.before.raise.ensures ∙ not-raised c.before.before.raise.result c.if4.true))
 
 write-requires : tie.Need-write-requires
@@ -77,7 +77,7 @@ write-requires c κs =
     let run = tested.before.are-within.ensures.0 (not-false _ tested.if2.false) in
     let same = compared.before.is-record.ensures.0 (not-false _ compared.if3.false) in
     next-written start.args.n start.args.features start.args.out.now start.requires.0 start.requires.1 f start.args.bytes.now start.requires.2
-    (numberList numbered.Numbers-of.result) numbered.Numbers-of.ensures run same raised.raise.result.numbers
+    (number_list numbered.Numbers-of.result) numbered.Numbers-of.ensures run same raised.raise.result.numbers
     (sym raised.raise.ensures ∙ raised-to raised.raise.result c.before.before.if4.false)
 
 same_length : tie.Need-same-length
@@ -96,8 +96,8 @@ returns-5 c =
     count_kept start.args.features numbered.before.before.is-count.ensures numbered.before.if1.false start.args.out.now
     (c.before.before.write.ensures ∙ goes_on start.args.n start.args.features start.args.out.now start.requires.0 start.requires.1 f
     start.args.bytes.now start.requires.2
-    (numberList numbered.Numbers-of.result) numbered.Numbers-of.ensures run same
-    (numberList raised.raise.result.numbers)
+    (number_list numbered.Numbers-of.result) numbered.Numbers-of.ensures run same
+    (number_list raised.raise.result.numbers)
     (sym raised.raise.ensures ∙ raised-to raised.raise.result c.before.before.before.before.before.if4.false))
 
 pub go-on-spec : {M : Type 1} → statement M

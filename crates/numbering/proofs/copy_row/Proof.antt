@@ -3,7 +3,7 @@ use mathlib.Core.Path.{◌∙◌, ap}
 use Prim.Native.Nat.{◌+◌, ◌-◌, ◌<◌}
 use native.Mathlib.Omega.{arith}
 use lib.ListN.{length}
-use Rattle.layout.specs.Builder.{putLabel}
+use Rattle.layout.specs.Builder.{put_label}
 use Rattle.layout.proofs.Builder.{length-put}
 use Rattle.numbering.proofs.CopiedRows.{Turn, turn-start, turn_step, turn-done, turn-ended, turn-feature, turn-number, turn-room, turn-short, turn-target}
 use Rattle.numbering.proofs.copy_row.Statement.{statement}
@@ -52,7 +52,7 @@ add-k : tie.Need-overflow-add-k invariant-loop decreases-loop
 add-k c = omega (arith, c.before.before.before.before.before.before.shared-slice-known2.given (c.before.before.before.before.before.before.before.before.before.args.v + 1))
 
 loop-holds : tie.Need-loop-init invariant-loop decreases-loop
-loop-holds c = (omega (arith, c.before.before.before.before.before.shared-slice-known3.given (c.before.before.before.before.before.before.before.before.before.args.v + 2)), turn-start c.before.before.before.before.before.before.before.before.before.args.new.now c.before.before.before.before.before.before.before.before.before.requires.0 c.before.before.before.before.before.before.before.before.before.requires.1.0 c.before.before.before.before.before.before.before.before.before.requires.1.1 (c.before.before.put-label.ensures ∙ ap (putLabel c.before.before.before.before.before.before.before.before.before.args.new.now c.before.before.before.before.before.before.before.before.before.args.at) c.before.before.before.before.label-at.ensures))
+loop-holds c = (omega (arith, c.before.before.before.before.before.shared-slice-known3.given (c.before.before.before.before.before.before.before.before.before.args.v + 2)), turn-start c.before.before.before.before.before.before.before.before.before.args.new.now c.before.before.before.before.before.before.before.before.before.requires.0 c.before.before.before.before.before.before.before.before.before.requires.1.0 c.before.before.before.before.before.before.before.before.before.requires.1.1 (c.before.before.put-label.ensures ∙ ap (put_label c.before.before.before.before.before.before.before.before.before.args.new.now c.before.before.before.before.before.before.before.before.before.args.at) c.before.before.before.before.label-at.ensures))
 
 mul-w : tie.Need-overflow-mul-w invariant-loop decreases-loop
 mul-w c = omega (arith, c.before.loop.invariant.0, c.loop-test.true)
@@ -94,7 +94,7 @@ same_length : tie.Need-same-length invariant-loop decreases-loop
 same_length c = c.before.loop.invariant.1.long ∙ ap length c.before.before.before.before.put-label.ensures ∙ length-put _ _ _
 
 returns : tie.Need-returns invariant-loop decreases-loop
-returns c = turn-done c.before.before.before.before.before.before.before.before.before.before.before.args.new.now (c.before.before.before.before.put-label.ensures ∙ ap (putLabel c.before.before.before.before.before.before.before.before.before.before.before.args.new.now c.before.before.before.before.before.before.before.before.before.before.before.args.at) c.before.before.before.before.before.before.label-at.ensures) c.before.loop.invariant.1 c.loop-test.false
+returns c = turn-done c.before.before.before.before.before.before.before.before.before.before.before.args.new.now (c.before.before.before.before.put-label.ensures ∙ ap (put_label c.before.before.before.before.before.before.before.before.before.before.before.args.new.now c.before.before.before.before.before.before.before.before.before.before.before.args.at) c.before.before.before.before.before.before.label-at.ensures) c.before.loop.invariant.1 c.loop-test.false
 
 pub copy-row-spec : {M : Type 1} → statement M
 copy-row-spec =

@@ -5,7 +5,7 @@ use native.Mathlib.Omega.{arith}
 use borrow.Author.Rules.{rules}
 use borrow.Author.Tests.{not-true, not-false}
 use Rattle.lattice.specs.Label.{Label}
-use Rattle.peeling.specs.Range.{labelInRange}
+use Rattle.peeling.specs.Range.{label_in_range}
 use Rattle.peeling.proofs.Counting.{Passed, passed_none, passed-more, passed-all, label-out, target-out}
 use Rattle.peeling.proofs.count_incoming.Statement.{statement}
 use Rattle.peeling.proofs.count_incoming.Tie as tie
@@ -39,7 +39,7 @@ returns c =
     let tested = c.before.is-label-in-range in
     let start = c.before.before.before.before.before.before.before in
     label-out c.before.before.before.loop-test.true
-    (sym (ap (labelInRange start.args.n) c.before.before.label-at.ensures) ∙ sym tested.ensures ∙ not-true tested.result c.if1.true)
+    (sym (ap (label_in_range start.args.n) c.before.before.label-at.ensures) ∙ sym tested.ensures ∙ not-true tested.result c.if1.true)
 
 count-row-requires : tie.Need-count-row-requires invariant-loop decreases-loop
 count-row-requires c κs = let turn = c.before.before.before.before in (turn.loop-test.true, turn.before.loop.invariant.1.counted)
@@ -63,7 +63,7 @@ loop-again c =
     let start = turn.before.before.before.before in (
       search rules,
       passed-more turn.before.loop.invariant.1
-          (sym (ap (labelInRange start.args.n) passed.before.before.label-at.ensures) ∙ sym tested.ensures
+          (sym (ap (label_in_range start.args.n) passed.before.before.label-at.ensures) ∙ sym tested.ensures
           ∙ not-false tested.result passed.if1.false)
           c.before.count-row.ensures (not-false c.before.count-row.result c.if2.false),
     )

@@ -9,7 +9,7 @@ use Rattle.peeling.proofs.Counting.{
   due-listed,
   row-start,
   row-place,
-  row_inside,
+  row_inside_lem,
   still-entered,
   row_room,
   row_stays,
@@ -54,23 +54,23 @@ target-requires : tie.Need-target-requires invariant-loop decreases-loop
 target-requires c κs = search rules
 
 mul_left : tie.Need-overflow-mul-left invariant-loop decreases-loop
-mul_left c = omega (arith, c.target.ensures, row_inside c.before.before.before.loop.invariant c.before.before.loop-test.true, c.before.before.before.loop.invariant.due.small)
+mul_left c = omega (arith, c.target.ensures, row_inside_lem c.before.before.before.loop.invariant c.before.before.loop-test.true, c.before.before.before.loop.invariant.due.small)
 
 element-copy-out-left : tie.Need-element-copy-out-left invariant-loop decreases-loop
-element-copy-out-left c = omega (arith, c.target.ensures, row_inside c.before.before.before.loop.invariant c.before.before.loop-test.true, c.before.before.before.loop.invariant.due.small)
+element-copy-out-left c = omega (arith, c.target.ensures, row_inside_lem c.before.before.before.loop.invariant c.before.before.loop-test.true, c.before.before.before.loop.invariant.due.small)
 
 sub-left : tie.Need-overflow-sub-left invariant-loop decreases-loop
 sub-left c =
     omega (arith, ap (λ (w : ℕ). get_or c.before.before.before.before.loop.incoming w 0) c.before.target.ensures, still-entered c.before.before.before.before.loop.invariant c.before.before.before.loop-test.true)
 
 mul-incoming : tie.Need-overflow-mul-incoming invariant-loop decreases-loop
-mul-incoming c = omega (arith, c.before.target.ensures, row_inside c.before.before.before.before.loop.invariant c.before.before.before.loop-test.true, c.before.before.before.before.loop.invariant.due.small)
+mul-incoming c = omega (arith, c.before.target.ensures, row_inside_lem c.before.before.before.before.loop.invariant c.before.before.before.loop-test.true, c.before.before.before.before.loop.invariant.due.small)
 
 element-write-incoming : tie.Need-element-write-incoming invariant-loop decreases-loop
-element-write-incoming c = omega (arith, c.before.target.ensures, row_inside c.before.before.before.before.loop.invariant c.before.before.before.loop-test.true, c.before.before.before.before.loop.invariant.due.small)
+element-write-incoming c = omega (arith, c.before.target.ensures, row_inside_lem c.before.before.before.before.loop.invariant c.before.before.before.loop-test.true, c.before.before.before.before.loop.invariant.due.small)
 
 cast-queue : tie.Need-overflow-cast-queue invariant-loop decreases-loop
-cast-queue c = omega (arith, c.before.before.target.ensures, row_inside c.before.before.before.before.before.loop.invariant c.before.before.before.before.loop-test.true, c.before.before.before.before.before.loop.invariant.due.small)
+cast-queue c = omega (arith, c.before.before.target.ensures, row_inside_lem c.before.before.before.before.before.loop.invariant c.before.before.before.before.loop-test.true, c.before.before.before.before.before.loop.invariant.due.small)
 
 mul-queue : tie.Need-overflow-mul-queue invariant-loop decreases-loop
 mul-queue c = omega (arith, row_room c.before.before.before.before.before.loop.invariant c.before.before.before.before.loop-test.true (rw c.before.before.target.ensures at c.if1.true))

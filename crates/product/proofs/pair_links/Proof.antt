@@ -3,7 +3,7 @@ use mathlib.Core.Path.{◌≡◌, refl}
 use mathlib.Core.Logic.{inl, inr}
 use Prim.Native.Nat.{◌+◌, ◌-◌}
 use native.Mathlib.Omega.{arith}
-use Rattle.layout.specs.Layout.{rowEnd}
+use Rattle.layout.specs.Layout.{row_end}
 use Rattle.product.proofs.Merging.{Merging, merge-start, merge-ended, merge-left, merge-right, merge-room, merge-nodes, merge-full, merge-both, merge-spreads}
 use borrow.Author.Rules.{rules}
 use Rattle.product.proofs.pair_links.Statement.{statement}
@@ -11,7 +11,7 @@ use Rattle.product.proofs.pair_links.Tie as tie
 
 abbrev invariant-loop : tie.invariant-loop
 invariant-loop a b u v marks₀ queue₀ words₀ a-end b_end i₀ j₀ at₀ count₀ marks queue words i j at count =
-    (a-end ≡ rowEnd a u) × (b_end ≡ rowEnd b v) × Merging a b u v queue₀ words₀ (record { at = at₀; count = count₀ }) i j marks queue words (record { at = at; count = count })
+    (a-end ≡ row_end a u) × (b_end ≡ row_end b v) × Merging a b u v queue₀ words₀ (record { at = at₀; count = count₀ }) i j marks queue words (record { at = at; count = count })
 
 abbrev decreases-loop : tie.decreases-loop
 decreases-loop a b u v marks₀ queue₀ words₀ a-end b_end i₀ j₀ at₀ count₀ marks queue words i j at count =

@@ -1,7 +1,7 @@
 -- `code` meets its contract: the number of a reply is its code, by what the reply tells.
 use mathlib.Core.Path.{sym, ◌∙◌, ap}
 use Rattle.replies.proofs.Numbers.{number_small}
-use Rattle.record_engine.specs.Code.{codeFor, refusalCode}
+use Rattle.record_engine.specs.Code.{code_for, refusal_code}
 use borrow.Author.Rules.{rules}
 use Rattle.record_engine.proofs.code.Statement.{statement}
 use Rattle.record_engine.proofs.code.Tie as tie
@@ -55,38 +55,38 @@ refusal-requires-2 c κs =
     (number_small f.before.args.reply (sym f.answer-of.ensures ∙ k.answer4.given.1), search rules)
 
 returns : tie.Need-returns
-returns c = ap codeFor (sym c.before.answer.given.1 ∙ c.before.before.before.answer-of.ensures)
+returns c = ap code_for (sym c.before.answer.given.1 ∙ c.before.before.before.answer-of.ensures)
 
 returns-2 : tie.Need-returns-2
-returns-2 c = ap codeFor (sym c.enum_told.given.1 ∙ c.before.before.answer-of.ensures)
+returns-2 c = ap code_for (sym c.enum_told.given.1 ∙ c.before.before.answer-of.ensures)
 
 returns-3 : tie.Need-returns-3
-returns-3 c = ap codeFor (sym c.enum-told2.given.1 ∙ c.before.before.answer-of.ensures)
+returns-3 c = ap code_for (sym c.enum-told2.given.1 ∙ c.before.before.answer-of.ensures)
 
 returns-4 : tie.Need-returns-4
-returns-4 c = ap codeFor (sym c.enum-told3.given.1 ∙ c.before.before.answer-of.ensures)
+returns-4 c = ap code_for (sym c.enum-told3.given.1 ∙ c.before.before.answer-of.ensures)
 
 returns-5 : tie.Need-returns-5
-returns-5 c = ap codeFor (sym c.enum-told4.given.1 ∙ c.before.before.answer-of.ensures)
+returns-5 c = ap code_for (sym c.enum-told4.given.1 ∙ c.before.before.answer-of.ensures)
 
 returns-6 : tie.Need-returns-6
 returns-6 c =
     let k = c.before.before in
-    c.counts.ensures ∙ ap codeFor (sym k.answer2.given.1 ∙ k.before.before.answer-of.ensures)
+    c.counts.ensures ∙ ap code_for (sym k.answer2.given.1 ∙ k.before.before.answer-of.ensures)
 
 returns-7 : tie.Need-returns-7
-returns-7 c = ap codeFor (sym c.enum-told5.given.1 ∙ c.before.before.answer-of.ensures)
+returns-7 c = ap code_for (sym c.enum-told5.given.1 ∙ c.before.before.answer-of.ensures)
 
 returns-8 : tie.Need-returns-8
 returns-8 c =
     let k = c.before.before in
-    c.refusal.ensures ∙ ap codeFor (sym k.answer3.given.1 ∙ k.before.before.answer-of.ensures)
+    c.refusal.ensures ∙ ap code_for (sym k.answer3.given.1 ∙ k.before.before.answer-of.ensures)
 
 returns-9 : tie.Need-returns-9
 returns-9 c =
     let k = c.before.before.before in
-    c.refusal2.ensures ∙ ap (refusalCode k.answer4.given.0.0) c.before.side-number.ensures.0
-    ∙ ap codeFor (sym k.answer4.given.1 ∙ k.before.before.answer-of.ensures)
+    c.refusal2.ensures ∙ ap (refusal_code k.answer4.given.0.0) c.before.side-number.ensures.0
+    ∙ ap code_for (sym k.answer4.given.1 ∙ k.before.before.answer-of.ensures)
 
 pub code-spec : {M : Type 1} → statement M
 code-spec =

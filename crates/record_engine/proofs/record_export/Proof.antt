@@ -47,7 +47,7 @@ use Rattle.rows.proofs.store_rows.Symbol as store-rows-def
 use Rattle.rows.proofs.store_rows.Symbol.{name as #rows·store-rows}
 use Rattle.rows.proofs.store_rows.Met as store-rows-thm
 use Rattle.planning.specs.Planning.{exporting}
-use Rattle.record_engine.specs.CodedRows.{Stores, codedRows, yieldingRows}
+use Rattle.record_engine.specs.CodedRows.{Stores, coded_rows, yielding_rows}
 use Rattle.record_engine.specs.declared.Made.{Made}
 use Rattle.record_engine.specs.contracts.Made as D
 use Rattle.record_engine.proofs.Made.TheLaws as D'
@@ -165,7 +165,7 @@ module _ {M : Type 1} {𝓤 : Ura M} (𝓛 : Logic 𝓤) (mem : Memory → SProp
   store-asked : (r : Made) → (r.count ≤ length xs) × (r.count ≤ 2048) → ent 𝓤 (on_entry 𝓛 store-rows.signature (κ₂, tt) (q₂, tt) (r.at, (r.count, (s, tt))) (made_val r ∷ [], (vint w64 r.count ∷ [], (vs ∷ [], tt)))) ((Store 𝓛 mem run).pre (to-store r))
   store-asked r h = qed 𝓛 (raw (on_entry 𝓛 store-rows.signature (κ₂, tt) (q₂, tt) (r.at, (r.count, (s, tt))) (made_val r ∷ [], (vint w64 r.count ∷ [], (vs ∷ [], tt)))) ∷ []) ∵ says ! h $ done !
 
-  exits : (r : ℕ) (ws : List Row) (us : List ℕ) → n < 2 ^ 64 → r < 2 ^ 64 → yieldingRows r ws us ≡ codedRows (exporting n ts ks xs ys) → length ws ≡ length xs → length us ≡ length ys
+  exits : (r : ℕ) (ws : List Row) (us : List ℕ) → n < 2 ^ 64 → r < 2 ^ 64 → yielding_rows r ws us ≡ coded_rows (exporting n ts ks xs ys) → length ws ≡ length xs → length us ≡ length ys
       → ent 𝓤 (⋆ 𝓛 ((‵ (flft κ₂ q₂) ⊛ ‵ ftrue) ∷ ‵ (finally R γ ws) ∷ (‵ (flft κ₀ q₀) ⊛ (‵ (flft κ₁ q₁) ⊛ (‵ (flft κ₃ q₃) ⊛ ‵ ftrue))) ∷ ‵ (finally u8 γ' us) ∷ ‵ Own-k ∷ ‵ Own-t ∷ [])) (Post (vint w64 r))
   exits r ws us n-fits r-fits e l l' =
       qed 𝓛 ((‵ (flft κ₂ q₂) ⊛ ‵ ftrue) ∷ ‵ (finally R γ ws) ∷ (‵ (flft κ₀ q₀) ⊛ (‵ (flft κ₁ q₁) ⊛ (‵ (flft κ₃ q₃) ⊛ ‵ ftrue))) ∷ ‵ (finally u8 γ' us) ∷ ‵ Own-k ∷ ‵ Own-t ∷ []) ∵
@@ -224,7 +224,7 @@ module _ {M : Type 1} {𝓤 : Ura M} (𝓛 : Logic 𝓤) (mem : Memory → SProp
         returns ! (look ! 30 refl) $ forget ! 6 refl $ forget ! 8 refl $ forget ! 10 refl $ forget ! 12 refl $ forget ! 14 refl $ forget ! 16 refl $ forget ! 18 refl $ forget ! 20 refl $ forget ! 22 refl $ forget ! 24 refl $ forget ! 26 refl $ forget ! 28 refl $ forget ! 30 refl $
         move ! (30 ∷ 31 ∷ []) $ free1 ! $ move ! (28 ∷ 29 ∷ []) $ free1 ! $ move ! (26 ∷ 27 ∷ []) $ free1 ! $ move ! (24 ∷ 25 ∷ []) $ free1 ! $ move ! (22 ∷ 23 ∷ []) $ free1 ! $ move ! (20 ∷ 21 ∷ []) $ free1 ! $ move ! (18 ∷ 19 ∷ []) $ free1 ! $ move ! (16 ∷ 17 ∷ []) $ free1 ! $
         move ! (14 ∷ 15 ∷ []) $ free1 ! $ move ! (12 ∷ 13 ∷ []) $ free1 ! $ move ! (10 ∷ 11 ∷ []) $ free1 ! $ move ! (8 ∷ 9 ∷ []) $ free1 ! $ move ! (6 ∷ 7 ∷ []) $ free1 ! $ free0 ! $
-        by ! (exits r.answer us.1.1.0 ws.1.1.1.1.0 fits (LL.owed D.the_type D'.the_laws r (u ∷ []) is).0.1 (ap (λ (rs : List Row). yieldingRows r.answer rs ws.1.1.1.1.0) e' ∙ e.1 xs refl) l' l))))))))))))))))))))))))))
+        by ! (exits r.answer us.1.1.0 ws.1.1.1.1.0 fits (LL.owed D.the_type D'.the_laws r (u ∷ []) is).0.1 (ap (λ (rs : List Row). yielding_rows r.answer rs ws.1.1.1.1.0) e' ∙ e.1 xs refl) l' l))))))))))))))))))))))))))
 
 module _ {M : Type 1} {𝓤 : Ura M} (𝓛 : Logic 𝓤) (mem : Memory → SProp 𝓤) (run : Routine → Fun 𝓤) where
   open 𝓛 use {H}

@@ -46,7 +46,7 @@ use Rattle.rows.proofs.load_rows.Symbol as load-rows-def
 use Rattle.rows.proofs.load_rows.Symbol.{name as #rows·load-rows}
 use Rattle.rows.proofs.load_rows.Met as load-rows-thm
 use Rattle.encode.specs.Encode.{yielding}
-use Rattle.planning.specs.Planning.{importing, importingRows}
+use Rattle.planning.specs.Planning.{importing, importing_rows}
 use Rattle.record_engine.specs.Coded.{coded}
 use Rattle.record_engine.specs.contracts.import_coded as import-coded
 use Rattle.record_engine.proofs.import_coded.Symbol as import-coded-def
@@ -158,7 +158,7 @@ module _ {M : Type 1} {𝓤 : Ura M} (𝓛 : Logic 𝓤) (mem : Memory → SProp
   abbrev Says : List Row → ℕ → List ℕ → Type 0
   Says all r ws = yielding r ws ≡ coded (importing n ts (length xs) (take (length xs) all) ks ys)
 
-  exits : (r : ℕ) (w : Val) (ws : List ℕ) → n < 2 ^ 64 → yielding r ws ≡ coded (importingRows n ts xs ks ys) → length ws ≡ length ys
+  exits : (r : ℕ) (w : Val) (ws : List ℕ) → n < 2 ^ 64 → yielding r ws ≡ coded (importing_rows n ts xs ks ys) → length ws ≡ length ys
       → ent 𝓤 (⋆ 𝓛 (‵ (usize.own_val r (w ∷ [])) ∷ (‵ (flft κ₀ q₀) ⊛ (‵ (flft κ₂ q₂) ⊛ (‵ (flft κ₃ q₃) ⊛ ‵ ftrue))) ∷ ‵ (finally u8 γ ws) ∷ (‵ (flft κ₁ q₁) ⊛ ‵ ftrue) ∷ ‵ Own-s ∷ ‵ Own-k ∷ ‵ Own-t ∷ [])) (Post w)
   exits r w ws fits e l =
       qed 𝓛 (‵ (usize.own_val r (w ∷ [])) ∷ (‵ (flft κ₀ q₀) ⊛ (‵ (flft κ₂ q₂) ⊛ (‵ (flft κ₃ q₃) ⊛ ‵ ftrue))) ∷ ‵ (finally u8 γ ws) ∷ (‵ (flft κ₁ q₁) ⊛ ‵ ftrue) ∷ ‵ Own-s ∷ ‵ Own-k ∷ ‵ Own-t ∷ []) ∵

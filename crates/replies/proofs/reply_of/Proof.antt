@@ -1,6 +1,6 @@
 -- `reply_of` meets its contract.
 use mathlib.Core.Path.{ap, sym}
-use Rattle.replies.specs.Reply.{replyOf}
+use Rattle.replies.specs.Reply.{reply_of}
 use borrow.Author.Rules.{rules}
 use Rattle.replies.proofs.reply_of.Statement.{statement}
 use Rattle.replies.proofs.reply_of.Tie as tie
@@ -15,7 +15,7 @@ enum-told-2 : tie.Need-enum-told-2
 enum-told-2 c = search rules
 
 returns : tie.Need-returns
-returns c = ap replyOf (sym c.before.written.given.1)
+returns c = ap reply_of (sym c.before.written.given.1)
 
 returns-2 : tie.Need-returns-2
 returns-2 c = search rules

@@ -1,6 +1,6 @@
 -- `put_words` meets its contract: the request is that of the input.
 use mathlib.Core.Path.{◌∙◌, ap}
-use Rattle.request.specs.Parse.{requestIn}
+use Rattle.request.specs.Parse.{request_in}
 use Rattle.request.proofs.Replies.{puts-words}
 use borrow.Author.Rules.{rules}
 use Rattle.request.proofs.put_words.Statement.{statement}
@@ -30,7 +30,7 @@ same_length c = search rules
 returns : tie.Need-returns
 returns c =
     let w = c.before.before in
-    puts-words (w.before.before.before.before.before.parse.ensures.read_is ∙ ap (requestIn _) w.before.before.before.enum_told.given.1) w.put_word.ensures
+    puts-words (w.before.before.before.before.before.parse.ensures.read_is ∙ ap (request_in _) w.before.before.before.enum_told.given.1) w.put_word.ensures
 
 same-length-2 : tie.Need-same-length-2
 same-length-2 c = search rules
@@ -38,7 +38,7 @@ same-length-2 c = search rules
 returns-2 : tie.Need-returns-2
 returns-2 c =
     let w = c.before.before in
-    puts-words (w.before.before.before.before.before.parse.ensures.read_is ∙ ap (requestIn _) w.before.before.before.parsed.given.1) w.put-answer.ensures
+    puts-words (w.before.before.before.before.before.parse.ensures.read_is ∙ ap (request_in _) w.before.before.before.parsed.given.1) w.put-answer.ensures
 
 pub put-words-spec : {M : Type 1} → statement M
 put-words-spec =

@@ -7,7 +7,7 @@ use mathlib.Core.Path.{◌≡◌, sym, ◌∙◌}
 use native.Mathlib.Omega.{arith}
 use Rattle.graphs.proofs.Search.{same_test, not-true-false}
 use Rattle.lattice.specs.Label.{Label}
-use Rattle.lattice.specs.Labels.{tableLabels}
+use Rattle.lattice.specs.Labels.{table_labels}
 use Rattle.lattice.specs.Table.{below}
 use Rattle.lattice.proofs.Lawful.{Inside, inside, inside-le}
 use Rattle.layout.specs.Builder.{stated}
@@ -16,13 +16,13 @@ use Rattle.subsume.proofs.is_label_below.Tie as tie
 use Rattle.lattice.proofs.words.is_below.Reads as is-below-reads
 
 module _ (n : ℕ) (t : List ℕ) (x y : Label) where
-  outside : (Inside t x y → ⊥) → false ≡ (tableLabels n t).le x y
-  outside never = sym (not-true-false ((tableLabels n t).le x y) (λ e. never (inside n t x y e)))
+  outside : (Inside t x y → ⊥) → false ≡ (table_labels n t).le x y
+  outside never = sym (not-true-false ((table_labels n t).le x y) (λ e. never (inside n t x y e)))
 
   -- the types decide where the range lies inside
-  by-type : y.lowest ≤ x.lowest → x.highest ≤ y.highest → below t x.type y.type ≡ (tableLabels n t).le x y
+  by-type : y.lowest ≤ x.lowest → x.highest ≤ y.highest → below t x.type y.type ≡ (table_labels n t).le x y
   by-type low high =
-      same_test (below t x.type y.type) ((tableLabels n t).le x y)
+      same_test (below t x.type y.type) ((table_labels n t).le x y)
       (λ e. inside-le n t x y (record { type = e; lowest = low; highest = high })) (λ e. (inside n t x y e).type)
 
 -- src/lib.rt:99:9

@@ -5,7 +5,7 @@ use Prim.Native.Nat.{◌-◌, ◌<◌}
 use native.Mathlib.Omega.{arith}
 use borrow.Author.Tests.{not-true, not-false}
 use lib.ListN.{replicate}
-use Rattle.lattice.specs.Labels.{tableLabels}
+use Rattle.lattice.specs.Labels.{table_labels}
 use Rattle.subsume.proofs.Searching.{Searched, searched-start, searched-on, next-node, order-yes, order-label, order-clash}
 use Rattle.subsume.proofs.subsume.Statement.{statement}
 use Rattle.subsume.proofs.subsume.Tie as tie
@@ -65,7 +65,7 @@ is-label-below-requires c κs = let node = next-node c.before.before.before.loop
 
 -- src/lib.rt:123:13
 returns : tie.Need-returns invariant-loop decreases-loop
-returns c = λ n. order-label c.before.before.before.before.before.loop.invariant c.before.before.before.before.loop-test.true n (ap₂ (tableLabels n _).le (sym c.before.before.before.label-at.ensures) (sym c.before.before.label-at2.ensures) ∙ sym (c.before.is-label-below.ensures n) ∙ not-true _ c.if1.true)
+returns c = λ n. order-label c.before.before.before.before.before.loop.invariant c.before.before.before.before.loop-test.true n (ap₂ (table_labels n _).le (sym c.before.before.before.label-at.ensures) (sym c.before.before.label-at2.ensures) ∙ sym (c.before.is-label-below.ensures n) ∙ not-true _ c.if1.true)
 
 -- src/lib.rt:128:9
 follow-requires : tie.Need-follow-requires invariant-loop decreases-loop
@@ -85,7 +85,7 @@ loop-less c = omega (arith, c.before.before.before.before.before.before.before.b
 
 -- src/lib.rt:117:5
 loop-again : tie.Need-loop-preserved invariant-loop decreases-loop
-loop-again c = searched-on c.before.before.before.before.before.before.before.before.before.loop.invariant c.before.before.before.before.before.before.before.before.loop-test.true (λ n. ap₂ (tableLabels n _).le (sym c.before.before.before.before.before.before.before.label-at.ensures) (sym c.before.before.before.before.before.before.label-at2.ensures) ∙ sym (c.before.before.before.before.before.is-label-below.ensures n) ∙ not-false _ c.before.before.before.before.if1.false) (c.before.follow.ensures.goes (omega (arith, c.if2.false)))
+loop-again c = searched-on c.before.before.before.before.before.before.before.before.before.loop.invariant c.before.before.before.before.before.before.before.before.loop-test.true (λ n. ap₂ (table_labels n _).le (sym c.before.before.before.before.before.before.before.label-at.ensures) (sym c.before.before.before.before.before.before.label-at2.ensures) ∙ sym (c.before.before.before.before.before.is-label-below.ensures n) ∙ not-false _ c.before.before.before.before.if1.false) (c.before.follow.ensures.goes (omega (arith, c.if2.false)))
 
 -- src/lib.rt:108:1
 returns-3 : tie.Need-returns-3 invariant-loop decreases-loop

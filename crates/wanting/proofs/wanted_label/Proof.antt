@@ -1,7 +1,7 @@
 -- `wanted_label` meets its contract.
 use borrow.Author.Rules.{rules}
 use mathlib.Core.Path.{◌∙◌, ap}
-use Rattle.lattice.specs.Labels.{wantedLevel}
+use Rattle.lattice.specs.Labels.{wanted_level}
 use Rattle.layout.specs.Builder.{stated}
 use Rattle.wanting.proofs.Wanting.{wanted-tells}
 use Rattle.wanting.proofs.wanted_label.Statement.{statement}
@@ -26,8 +26,8 @@ returns c = λ t ok words q k word low high.
     let start = c.before.before.before.before in
     wanted-tells start.args.n t (stated start.args.p) q _ start.requires.0
     (c.before.before.wanted.ensures t ok words q.type k.type word)
-    (c.before.wanted-level.ensures ∙ ap (wantedLevel 0 start.args.p.lowest) low)
-    (c.wanted-level2.ensures ∙ ap (wantedLevel 255 start.args.p.highest) high)
+    (c.before.wanted-level.ensures ∙ ap (wanted_level 0 start.args.p.lowest) low)
+    (c.wanted-level2.ensures ∙ ap (wanted_level 255 start.args.p.highest) high)
 
 pub wanted-label-spec : {M : Type 1} → statement M
 wanted-label-spec =

@@ -7,7 +7,7 @@ use lib.ListN.{length, take}
 use Rattle.replies.specs.Reply.{length_of}
 use Rattle.gathering.proofs.Told.{none-some}
 use Rattle.versions.specs.State.{way}
-use Rattle.versions.specs.Slots.{programsIn}
+use Rattle.versions.specs.Slots.{programs_in}
 use Rattle.gathering.proofs.Told.{no_length}
 use Rattle.versions.proofs.Lengths.{none-bounded, length-bounded}
 use Rattle.versions.proofs.Packs.{two-long}
@@ -49,10 +49,10 @@ kept : (x : Turn) → length x.loop.state ≡ length (start x).args.state.now
 kept x = x.loop.inv.long ∙ begun x
 
 whole : (x : Turn) →
-    way (start x).args.n (start x).args.table.now (length x.before.before.before.put-length2.last.1.1.0) (programsIn (start x).args.slots.now) ≡
-    way (start x).args.n (start x).args.table.now (length (start x).args.state.now) (programsIn (start x).args.slots.now)
+    way (start x).args.n (start x).args.table.now (length x.before.before.before.put-length2.last.1.1.0) (programs_in (start x).args.slots.now) ≡
+    way (start x).args.n (start x).args.table.now (length (start x).args.state.now) (programs_in (start x).args.slots.now)
 whole x =
-    ap (λ (room : ℕ). way (start x).args.n (start x).args.table.now room (programsIn (start x).args.slots.now)) (begun x)
+    ap (λ (room : ℕ). way (start x).args.n (start x).args.table.now room (programs_in (start x).args.slots.now)) (begun x)
 
 put-length-requires : tie.Need-put-length-requires invariant-loop decreases-loop
 put-length-requires c κs = search rules
@@ -142,7 +142,7 @@ returns-2 c =
           x.loop.invariant.led.parted,
           (
             going-ends x.loop.invariant all ∙ whole x,
-            λ k e. subst (λ (room : ℕ). Led (start x).args.n (start x).args.table.now room (programsIn (start x).args.slots.now) 16 x.loop.part (take k x.loop.state))
+            λ k e. subst (λ (room : ℕ). Led (start x).args.n (start x).args.table.now room (programs_in (start x).args.slots.now) 16 x.loop.part (take k x.loop.state))
                 (begun x) (going-led x.loop.invariant all k e),
           ),
         ),

@@ -7,7 +7,7 @@ use native.Mathlib.Omega.{arith}
 use lib.ListN.{get_or}
 use borrow.Author.Count.{below_more}
 use borrow.Author.Tests.{le-leb, lt-leb}
-use Rattle.lattice.specs.Words.{rowInside, row_set}
+use Rattle.lattice.specs.Words.{row_inside, row_set}
 use Rattle.lattice.proofs.Every.{refuted, held, every-done, every-none}
 use Rattle.acceptance.proofs.Spanning.{rows-set, top-fails, row-fails}
 use borrow.Author.Rules.{rules}
@@ -15,7 +15,7 @@ use Rattle.acceptance.proofs.order.are_rows_set.Statement.{statement}
 use Rattle.acceptance.proofs.order.are_rows_set.Tie as tie
 
 abbrev invariant-loop : tie.invariant-loop
-invariant-loop n down all i₀ i = (i ≤ n) × ((k : ℕ) → k < i → rowInside (get_or down (n - 1) 0) (get_or down k 0) k ≡ true)
+invariant-loop n down all i₀ i = (i ≤ n) × ((k : ℕ) → k < i → row_inside (get_or down (n - 1) 0) (get_or down k 0) k ≡ true)
 
 abbrev decreases-loop : tie.decreases-loop
 decreases-loop n down all i₀ i = n - i
@@ -77,7 +77,7 @@ loop-again c =
     let turn = c.before.before.before.before.loop in
     let ws = start.args.down.now in (
       search rules,
-      below_more (λ k. rowInside (get_or ws (start.args.n - 1) 0) (get_or ws k 0) k ≡ true) turn.i turn.invariant.1
+      below_more (λ k. row_inside (get_or ws (start.args.n - 1) 0) (get_or ws k 0) k ≡ true) turn.i turn.invariant.1
           (held c.before.is-row-inside.ensures c.if3.false),
     )
 

@@ -8,7 +8,7 @@ use native.Mathlib.Omega.{arith}
 use lib.Dec.{leb}
 use borrow.Author.Tests.{le-ltb, lt-ltb}
 use Rattle.lattice.specs.Table.{every, implies, found as foundOf}
-use Rattle.lattice.specs.Words.{wordBound}
+use Rattle.lattice.specs.Words.{word_bound}
 use Rattle.lattice.proofs.Every.{every-fails, all-kept, every-end}
 use Rattle.lattice.proofs.Rows.{holder-found}
 use Rattle.bounds.proofs.Columns.{Filling, filling-begins, filling-more, filling-ends, none-tested, is-tested}
@@ -21,7 +21,7 @@ invariant-loop n words low a rows₀ found₀ b₀ rows found b =
     (a ≤ b)
     × (b ≤ n)
     × Filling n words rows a b
-    × (found ≡ every b (λ k. implies (leb a k) (foundOf (wordBound n words a k))))
+    × (found ≡ every b (λ k. implies (leb a k) (foundOf (word_bound n words a k))))
 
 abbrev decreases-loop : tie.decreases-loop
 decreases-loop n words low a rows₀ found₀ b₀ rows found b = n - b

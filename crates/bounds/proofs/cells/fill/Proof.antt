@@ -5,8 +5,8 @@ use mathlib.Core.Logic.{⊎_elim}
 use mathlib.Core.Path.{◌≡◌, sym, ◌∙◌}
 use native.Mathlib.Omega.{arith}
 use lib.Dec.{leb}
-use Rattle.lattice.specs.Table.{every, implies, found as foundOf, boundRow, overwrite}
-use Rattle.lattice.specs.Words.{wordBound}
+use Rattle.lattice.specs.Table.{every, implies, found as foundOf, bound_row, overwrite}
+use Rattle.lattice.specs.Words.{word_bound}
 use Rattle.bounds.specs.Cells.{Columns}
 use Rattle.lattice.proofs.Every.{every-none, every-fails, all-kept, refuted, held}
 use Rattle.lattice.proofs.Rows.{overwrite-none, next_row}
@@ -18,8 +18,8 @@ use Rattle.bounds.proofs.cells.fill.Tie as tie
 abbrev invariant-loop : tie.invariant-loop
 invariant-loop n words low table₀ rows₀ found₀ a₀ table rows found a =
     (a ≤ n)
-    × (found ≡ every a (λ k. every n (λ b. implies (leb k b) (foundOf (wordBound n words k b)))))
-    × (table ≡ overwrite a (boundRow n (wordBound n words)) table₀)
+    × (found ≡ every a (λ k. every n (λ b. implies (leb k b) (foundOf (word_bound n words k b)))))
+    × (table ≡ overwrite a (bound_row n (word_bound n words)) table₀)
     × Columns n words rows a
 
 abbrev decreases-loop : tie.decreases-loop

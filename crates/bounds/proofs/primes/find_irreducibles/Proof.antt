@@ -9,7 +9,7 @@ use lib.ListN.{length-replicate}
 use native.Mathlib.Omega.{arith}
 use Rattle.lattice.specs.Table.{every}
 use Rattle.lattice.specs.Words.{word}
-use Rattle.bounds.specs.Primes.{wordIrreducible, wordSplits, wordPrime}
+use Rattle.bounds.specs.Primes.{word_irreducible, word_splits, word_prime}
 use Rattle.lattice.proofs.Every.{refuted, held, every-none, every_more, every-done}
 use Rattle.lattice.proofs.WordLaws.{word_none, word_below, next_word, word-done}
 use Rattle.bounds.proofs.Held.{Kept, kept_more, kept-past, prime-split, prime-past, finds-fault}
@@ -18,7 +18,7 @@ use Rattle.bounds.proofs.primes.find_irreducibles.Statement.{statement}
 use Rattle.bounds.proofs.primes.find_irreducibles.Tie as tie
 
 abbrev invariant-loop : tie.invariant-loop
-invariant-loop n down types₀ above₀ j₀ types above j = (j ≤ n) × (every j (wordPrime n down) ≡ true) × (types ≡ word j (wordIrreducible n down)) × Kept n down above j
+invariant-loop n down types₀ above₀ j₀ types above j = (j ≤ n) × (every j (word_prime n down) ≡ true) × (types ≡ word j (word_irreducible n down)) × Kept n down above j
 
 abbrev decreases-loop : tie.decreases-loop
 decreases-loop n down types₀ above₀ j₀ types above j = n - j
@@ -43,7 +43,7 @@ returns c =
     let ws = start.args.down.now in
     let stands = sym c.before.before.before.before.is-irreducible.ensures ∙ c.before.before.before.if1.true in
     finds-fault n ws turn.j _ (search rules) stands c.before.before.turn-word.ensures
-    (refuted {p = wordSplits n ws _} c.before.is-prime.ensures c.if2.true)
+    (refuted {p = word_splits n ws _} c.before.is-prime.ensures c.if2.true)
 
 mul-above : tie.Need-overflow-mul-above invariant-loop decreases-loop
 mul-above c = search rules
@@ -72,17 +72,17 @@ loop-again c =
     ⊎_elim
     (λ came.
     let stands = sym is ∙ came.0.taken in
-    let splits = held {p = wordSplits n ws _} came.2.ensures came.3.left in (
+    let splits = held {p = word_splits n ws _} came.2.ensures came.3.left in (
       search rules,
-      every_more (wordPrime n ws) turn.j turn.invariant.1 (prime-split n ws turn.j _ came.1.ensures splits),
-      next_word (wordIrreducible n ws) turn.j turn.types _ _ turn.invariant.2 is c.with-bit.ensures,
+      every_more (word_prime n ws) turn.j turn.invariant.1 (prime-split n ws turn.j _ came.1.ensures splits),
+      next_word (word_irreducible n ws) turn.j turn.types _ _ turn.invariant.2 is c.with-bit.ensures,
       subst (λ (l : List ℕ). Kept n ws l (turn.j + 1)) (sym came.4) (kept_more turn.invariant.3 _ (search rules) came.1.ensures),
     ))
     (λ came.
     let stands = sym is ∙ came.0.left in (
       search rules,
-      every_more (wordPrime n ws) turn.j turn.invariant.1 (prime-past n ws turn.j stands),
-      next_word (wordIrreducible n ws) turn.j turn.types _ _ turn.invariant.2 is c.with-bit.ensures,
+      every_more (word_prime n ws) turn.j turn.invariant.1 (prime-past n ws turn.j stands),
+      next_word (word_irreducible n ws) turn.j turn.types _ _ turn.invariant.2 is c.with-bit.ensures,
       subst (λ (l : List ℕ). Kept n ws l (turn.j + 1)) (sym came.1) (kept-past turn.invariant.3 stands),
     ))
     c.before.if1.branch
@@ -96,7 +96,7 @@ returns-2 c =
     let done : turn.j ≡ n = search rules in
     record {
       primes = every-done _ turn.j n (search rules) (search rules) turn.invariant.1;
-      types = λ e. word-done (wordIrreducible n ws) turn.j n _ (search rules) (search rules) turn.invariant.2;
+      types = λ e. word-done (word_irreducible n ws) turn.j n _ (search rules) (search rules) turn.invariant.2;
       above = λ e i l. turn.invariant.3.stand i (omega (arith, done));
     }
 

@@ -1,6 +1,6 @@
 -- `is_irreducible` meets its contract: the search finds the type whose word has the types strictly below j, if there is one.
 use Prim.Native.Nat.{◌^◌}
-use Rattle.bounds.specs.Primes.{wordIrreducible}
+use Rattle.bounds.specs.Primes.{word_irreducible}
 use Rattle.lattice.proofs.Seeking.{part-found}
 use borrow.Author.Rules.{rules}
 use Rattle.bounds.proofs.primes.is_irreducible.Statement.{statement}
@@ -19,7 +19,7 @@ find-word-requires : tie.Need-find-word-requires
 find-word-requires c κs = search rules
 
 returns : tie.Need-returns
-unfolding wordIrreducible
+unfolding word_irreducible
 returns c =
     let start = c.before.before.before in
     part-found start.args.n start.args.down.now start.args.j (2 ^ start.args.j) _ _ start.requires.0 start.requires.1 start.requires.2

@@ -1,5 +1,5 @@
 -- `is_prime` meets its contract: the search finds the type whose word has the types that are not in `above`, if there is one.
-use Rattle.bounds.specs.Primes.{wordSplits}
+use Rattle.bounds.specs.Primes.{word_splits}
 use Rattle.lattice.proofs.Seeking.{part-found}
 use borrow.Author.Rules.{rules}
 use Rattle.bounds.proofs.primes.is_prime.Statement.{statement}
@@ -21,7 +21,7 @@ find-word-requires : tie.Need-find-word-requires
 find-word-requires c κs = search rules
 
 returns : tie.Need-returns
-unfolding wordSplits
+unfolding word_splits
 returns c =
     let start = c.before.before.before in
     part-found start.args.n start.args.down.now _ start.args.above _ _ (search rules) start.requires.1 start.requires.2

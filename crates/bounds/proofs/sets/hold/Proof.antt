@@ -10,7 +10,7 @@ use lib.ListN.{length, get_or, set, length-set}
 use lib.Seq.{get_or-set_same}
 use lib.Bits.{bit_and}
 use Rattle.lattice.specs.Words.{word}
-use Rattle.bounds.specs.Primes.{wordIrreducible}
+use Rattle.bounds.specs.Primes.{word_irreducible}
 use Rattle.bounds.specs.Sets.{Sets, SoughtBy}
 use Rattle.lattice.proofs.Every.{refuted, held, true-not-false}
 use Rattle.bounds.proofs.Held.{sets_more}
@@ -20,7 +20,7 @@ use Rattle.bounds.proofs.sets.hold.Tie as tie
 
 -- one type more
 again : {up : Bool} (n : ℕ) {ws sets new : List ℕ} {k v : ℕ} (w : ℕ) → length sets ≡ 128 → Sets up n ws sets k → k < 64 →
-    v ≡ bit_and (get_or ws k 0) (word n (wordIrreducible n ws)) → SoughtBy up n ws k w → new ≡ set (set sets k v) (64 + k) w →
+    v ≡ bit_and (get_or ws k 0) (word n (word_irreducible n ws)) → SoughtBy up n ws k w → new ≡ set (set sets k v) (64 + k) w →
     (length new ≡ 128) × Sets up n ws new (k + 1)
 again {up} n {ws} {sets} {new} {k} {v} w long s l e f q = (
   ap length q ∙ length-set (set sets k v) (64 + k) w ∙ length-set sets k v ∙ long,

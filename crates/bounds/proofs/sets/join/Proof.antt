@@ -1,5 +1,5 @@
 -- `join` meets its contract: the answer is the cell, or the type whose set is the union.
-use Rattle.bounds.proofs.Held.{row_inside, union-member, join-in-cells, join-left, join-right, join-sought}
+use Rattle.bounds.proofs.Held.{row_inside_lem, union-member, join-in-cells, join-left, join-right, join-sought}
 use borrow.Author.Rules.{rules}
 use Rattle.bounds.proofs.sets.join.Statement.{statement}
 use Rattle.bounds.proofs.sets.join.Tie as tie
@@ -19,7 +19,7 @@ mul-result c = search rules
 index-1-result : tie.Need-bounds-1-result
 index-1-result c =
     let start = c.before.before in
-    row_inside start.args.n start.args.sets.now start.args.cells.now start.args.a start.args.b c.if1.true start.requires.1.1 start.requires.0.0 start.requires.0.2
+    row_inside_lem start.args.n start.args.sets.now start.args.cells.now start.args.a start.args.b c.if1.true start.requires.1.1 start.requires.0.0 start.requires.0.2
 
 index-2-result : tie.Need-bounds-2-result
 index-2-result c = search rules

@@ -7,8 +7,8 @@ use lib.ListN.{length-replicate}
 use borrow.Author.Tests.{not-true, not-false}
 use Rattle.acceptance.proofs.Acceptance.{accepted-opened}
 use Rattle.bounds.proofs.Opening.{opened-sets}
-use Rattle.record.specs.Appropriate.{listAccepted}
-use Rattle.engine.specs.Generalizing.{generalizedBeside}
+use Rattle.record.specs.Appropriate.{list_accepted}
+use Rattle.engine.specs.Generalizing.{generalized_beside}
 use Rattle.calls.proofs.Listed.{table-before-list, list-refused, list-passed}
 use Rattle.calls.proofs.Beside.{beside-checked, optional-passed, test-passed, test-failed}
 use borrow.Author.Rules.{rules}
@@ -36,9 +36,9 @@ is-list-accepted-requires c κs = search rules
 returns : tie.Need-returns
 returns c =
     let a = c.before.before.before.before.before.before.before.before.before.before.before.before.args in
-    list-refused (beside-checked a.n a.table.now a.listed a.list.now a.out.now (generalizedBeside a.n a.table.now a.list.now a.first.now a.second.now a.out.now))
+    list-refused (beside-checked a.n a.table.now a.listed a.list.now a.out.now (generalized_beside a.n a.table.now a.list.now a.first.now a.second.now a.out.now))
     (accepted-opened a.n a.table.now (c.before.before.before.before.before.choose.ensures.as-sets c.before.before.before.enum-told2.given.1).ok)
-    (test-failed a.listed (listAccepted a.n a.list.now) c.before.before.if1.true (sym c.before.is-list-accepted.ensures ∙ not-true c.before.is-list-accepted.result c.if2.true))
+    (test-failed a.listed (list_accepted a.n a.list.now) c.before.before.if1.true (sym c.before.is-list-accepted.ensures ∙ not-true c.before.is-list-accepted.result c.if2.true))
 
 slice-aggregate-of-records : tie.Need-slice-aggregate-of-records
 slice-aggregate-of-records c = search rules
@@ -47,13 +47,13 @@ of-records-requires : tie.Need-of-records-requires
 of-records-requires c κs =
     let a = c.before.before.before.before.before.before.before.before.before.before.before.before.before.args in (
       opened-sets true a.n a.table.now _ (c.before.before.before.before.before.before.choose.ensures.as-sets c.before.before.before.before.enum-told2.given.1),
-      optional-passed a.n a.listed a.list.now c.before.before.before.before.before.before.before.before.before.before.before.before.before.requires (test-passed a.listed (listAccepted a.n a.list.now) (⊎_elim (λ x. inl (x.0.taken, sym x.1.ensures ∙ not-false x.1.result x.2.left)) (λ x. inr x.left) c.before.before.before.if1.branch)),
+      optional-passed a.n a.listed a.list.now c.before.before.before.before.before.before.before.before.before.before.before.before.before.requires (test-passed a.listed (list_accepted a.n a.list.now) (⊎_elim (λ x. inl (x.0.taken, sym x.1.ensures ∙ not-false x.1.result x.2.left)) (λ x. inr x.left) c.before.before.before.if1.branch)),
     )
 
 returns-2 : tie.Need-returns-2
 returns-2 c =
     let a = c.before.before.before.before.before.before.before.before.before.before.args in
-    table-before-list (beside-checked a.n a.table.now a.listed a.list.now a.out.now (generalizedBeside a.n a.table.now a.list.now a.first.now a.second.now a.out.now)) _
+    table-before-list (beside-checked a.n a.table.now a.listed a.list.now a.out.now (generalized_beside a.n a.table.now a.list.now a.first.now a.second.now a.out.now)) _
     (sym (c.before.before.before.choose.ensures.refused _ c.before.form.given.1))
 
 same_length : tie.Need-same-length
@@ -69,9 +69,9 @@ returns-4 : tie.Need-returns-4
 returns-4 c =
     let a = c.before.before.before.before.before.before.before.before.before.before.before.before.before.before.before.before.args in
     c.before.before.of-records.ensures ∙
-    list-passed (beside-checked a.n a.table.now a.listed a.list.now a.out.now (generalizedBeside a.n a.table.now a.list.now a.first.now a.second.now a.out.now))
+    list-passed (beside-checked a.n a.table.now a.listed a.list.now a.out.now (generalized_beside a.n a.table.now a.list.now a.first.now a.second.now a.out.now))
     (accepted-opened a.n a.table.now (c.before.before.before.before.before.before.before.before.before.choose.ensures.as-sets c.before.before.before.before.before.before.before.enum-told2.given.1).ok)
-    (test-passed a.listed (listAccepted a.n a.list.now) (⊎_elim (λ x. inl (x.0.taken, sym x.1.ensures ∙ not-false x.1.result x.2.left)) (λ x. inr x.left) c.before.before.before.before.before.before.if1.branch))
+    (test-passed a.listed (list_accepted a.n a.list.now) (⊎_elim (λ x. inl (x.0.taken, sym x.1.ensures ∙ not-false x.1.result x.2.left)) (λ x. inr x.left) c.before.before.before.before.before.before.if1.branch))
 
 pub generalize-beside-spec : {M : Type 1} → statement M
 generalize-beside-spec =

@@ -1,4 +1,4 @@
--- `reader::byte_at` meets its contract: the test says which case of `byteStep` holds.
+-- `reader::byte_at` meets its contract: the test says which case of `byte_step` holds.
 use borrow.Author.Rules.{rules}
 use borrow.Author.Tests.{le-ltb, lt-ltb}
 use Rattle.decode.proofs.reader.byte_at.Statement.{statement}

@@ -2,7 +2,7 @@
 use contract.Running.{tables, tables_of}
 use denote.Enum.Laws as EL
 use denote.Triple.Table.{entered, cited}
-use Rattle.decode.specs.Reader.{byteStep}
+use Rattle.decode.specs.Reader.{byte_step}
 use Rattle.decode.specs.contracts.reader.Step as S
 use Rattle.decode.proofs.reader.Step.TheLaws as S'
 use Rattle.decode.proofs.Thin.{OnReader, Apart, makes-meets}
@@ -15,10 +15,10 @@ use Rattle.decode.proofs.reader.byte_from.Code as code
 pub byte-from-spec : {M : Type 1} → stated.statement M
 unfolding code.routine tables_of
 byte-from-spec 𝓤 𝓛 𝓜 𝓡 =
-    entered 𝓤 𝓛.H (Apart 𝓛 S.the_row byteStep) (tables 𝓤 𝓛.H 𝓜 𝓡 code.env).C (tables 𝓤 𝓛.H 𝓜 𝓡 code.env).Λ key.name code.function
+    entered 𝓤 𝓛.H (Apart 𝓛 S.the_row byte_step) (tables 𝓤 𝓛.H 𝓜 𝓡 code.env).C (tables 𝓤 𝓛.H 𝓜 𝓡 code.env).Λ key.name code.function
     (code.unfolded 𝓤 𝓛.H 𝓜 𝓡)
-    (makes-meets 𝓛 S.the_row S'.mir byteStep
+    (makes-meets 𝓛 S.the_row S'.mir byte_step
     (λ r u is. ((EL.lawful S.the_type S'.the_laws 𝓛 tt).typed r _ is).0)
     callee.name (tables_of 𝓤 𝓛.H 𝓜 (tables 𝓤 𝓛.H 𝓜 𝓡 code.env))
-    (cited 𝓤 𝓛.H (OnReader 𝓛 S.the_row byteStep) 𝓜 𝓡 code.env callee.name callee.routine code.calls-decode::reader::byte
+    (cited 𝓤 𝓛.H (OnReader 𝓛 S.the_row byte_step) 𝓜 𝓡 code.env callee.name callee.routine code.calls-decode::reader::byte
     (callee-thm.met 𝓤 𝓛 𝓜 𝓡)))

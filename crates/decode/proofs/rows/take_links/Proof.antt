@@ -3,7 +3,7 @@ use Prim.Native.Nat.{◌-◌}
 use native.Mathlib.Omega.{arith}
 use lib.ListN.{drop}
 use borrow.Author.Rules.{rules}
-use Rattle.decode.specs.Word.{takeWord}
+use Rattle.decode.specs.Word.{take_word}
 use Rattle.decode.proofs.Steps.{byte-taken, byte-ended}
 use Rattle.decode.proofs.Storing.{Linking, link-begin, link-feature, link-room, link-full, link-short, link-next, link-end, took-none, took-all}
 use Rattle.decode.proofs.rows.take_links.Statement.{statement}
@@ -11,7 +11,7 @@ use Rattle.decode.proofs.rows.take_links.Tie as tie
 
 abbrev invariant-loop : tie.invariant-loop
 invariant-loop bytes map start graph₀ at limit left₀ next₀ end₀ graph left next end =
-    Linking (takeWord 64 0 map (limit - at) (drop start bytes)) bytes start at limit graph₀ graph left next end
+    Linking (take_word 64 0 map (limit - at) (drop start bytes)) bytes start at limit graph₀ graph left next end
 
 abbrev decreases-loop : tie.decreases-loop
 decreases-loop bytes map start graph₀ at limit left₀ next₀ end₀ graph left next end = limit - end

@@ -1,14 +1,14 @@
 -- `put_row` meets its contract. Each turn of the loop stores one mark behind those before it.
 use Prim.Native.Nat.{◌+◌, ◌-◌, ◌<◌}
 use native.Mathlib.Omega.{arith}
-use Rattle.layout.specs.Layout.{linksFrom}
+use Rattle.layout.specs.Layout.{links_from}
 use Rattle.encode.proofs.MarkedRows.{MarkTurn, turn-start, turn_step, turn-done}
 use Rattle.encode.proofs.marks.put_row.Statement.{statement}
 use Rattle.encode.proofs.marks.put_row.Tie as tie
 
 abbrev invariant-loop : tie.invariant-loop
 invariant-loop graph marks v at beside₀ end k₀ next₀ beside k next =
-    (end < 65536) × MarkTurn marks (linksFrom graph v) end at beside₀ beside next k
+    (end < 65536) × MarkTurn marks (links_from graph v) end at beside₀ beside next k
 
 abbrev decreases-loop : tie.decreases-loop
 decreases-loop graph marks v at beside₀ end k₀ next₀ beside k next = end - k

@@ -1,6 +1,6 @@
 -- `combined_reply` meets its contract, case by case.
 use mathlib.Core.Path.{sym, ◌∙◌, ap}
-use Rattle.engine.specs.Unifying.{combinedReply}
+use Rattle.engine.specs.Unifying.{combined_reply}
 use borrow.Author.Rules.{rules}
 use Rattle.engine.proofs.unifying.combined_reply.Statement.{statement}
 use Rattle.engine.proofs.unifying.combined_reply.Tie as tie
@@ -18,7 +18,7 @@ enum-told-2 : tie.Need-enum-told-2
 enum-told-2 c = search rules
 
 returns : tie.Need-returns
-returns c = c.reply-of.ensures ∙ ap combinedReply (sym c.before.before.combined.given.1)
+returns c = c.reply-of.ensures ∙ ap combined_reply (sym c.before.before.combined.given.1)
 
 returns-2 : tie.Need-returns-2
 returns-2 c = search rules

@@ -2,7 +2,7 @@
 use mathlib.Core.Path.{sym, ◌∙◌}
 use Rattle.replies.specs.Reply.{refusing}
 use Rattle.pairs.proofs.Readings.{both-next, both-refused}
-use Rattle.engine.specs.Unifying.{unifiedRows}
+use Rattle.engine.specs.Unifying.{unified_rows}
 use borrow.Author.Rules.{rules}
 use Rattle.engine.proofs.unifying.of_read.Statement.{statement}
 use Rattle.engine.proofs.unifying.of_read.Tie as tie
@@ -19,7 +19,7 @@ of-graphs-requires c κs = let start = c.before.before.before.before.before.befo
 returns : tie.Need-returns
 returns c = λ t list x y held reads.
     let a = c.before.before.before.before.before.before.args in
-    sym (both-refused reads (λ r. refusing r a.out.now) (unifiedRows a.n t a.out.now) _ _ c.before.verdict.given.1)
+    sym (both-refused reads (λ r. refusing r a.out.now) (unified_rows a.n t a.out.now) _ _ c.before.verdict.given.1)
 
 same_length : tie.Need-same-length
 same_length c = search rules
@@ -27,7 +27,7 @@ same_length c = search rules
 returns-2 : tie.Need-returns-2
 returns-2 c = λ t list x y held reads.
     let a = c.before.before.before.before.before.before.before.before.before.args in
-    c.before.before.of-graphs.ensures t held ∙ sym (both-next reads (λ r. refusing r a.out.now) (unifiedRows a.n t a.out.now) c.before.before.before.before.enum_told.given.1)
+    c.before.before.of-graphs.ensures t held ∙ sym (both-next reads (λ r. refusing r a.out.now) (unified_rows a.n t a.out.now) c.before.before.before.before.enum_told.given.1)
 
 pub of-read-spec : {M : Type 1} → statement M
 of-read-spec =

@@ -3,7 +3,7 @@
 use Prim.Native.Nat.{ℕ, ◌+◌, ◌-◌, ◌≤◌}
 use native.Mathlib.Omega.{arith}
 use lib.ListN.{length-replicate, get_or-replicate}
-use Rattle.layout.specs.Layout.{rowFrom}
+use Rattle.layout.specs.Layout.{row_from}
 use Rattle.keeping.specs.Keeping.{Markable, Entering}
 use Rattle.keeping.proofs.Keeping.{InRow, entering-start, row-start, row-place, row_next, row_done, entering-done}
 use Rattle.keeping.proofs.keep.keep_entered.Statement.{statement}
@@ -17,7 +17,7 @@ abbrev decreases-loop2 : tie.decreases-loop2
 decreases-loop2 s marks keep₀ entered₀ nodes v end k₀ keep entered k = end - k
 
 abbrev invariant-loop : tie.invariant-loop
-invariant-loop s marks keep₀ entered₀ nodes v₀ keep entered v = (v ≤ nodes) × Markable s marks keep × Entering s marks (rowFrom s v) keep₀ keep entered
+invariant-loop s marks keep₀ entered₀ nodes v₀ keep entered v = (v ≤ nodes) × Markable s marks keep × Entering s marks (row_from s v) keep₀ keep entered
 
 abbrev decreases-loop : tie.decreases-loop
 decreases-loop s marks keep₀ entered₀ nodes v₀ keep entered v = nodes - v

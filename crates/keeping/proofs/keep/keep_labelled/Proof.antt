@@ -5,7 +5,7 @@ use native.Mathlib.Omega.{arith}
 use mathlib.Core.Logic.{⊎_elim}
 use mathlib.Core.Path.{sym, ap, subst, ◌∙◌}
 use Rattle.lattice.specs.Label.{Label, plain}
-use Rattle.lattice.specs.Labels.{tableLabels}
+use Rattle.lattice.specs.Labels.{table_labels}
 use Rattle.lattice.proofs.Every.{refuted, held}
 use Rattle.lattice.proofs.Lawful.{known_more}
 use Rattle.keeping.specs.Keeping.{Grown, Untop}
@@ -61,7 +61,7 @@ loop-again : tie.Need-loop-preserved invariant-loop decreases-loop
 loop-again c =
     let turn = c.before.before.before.before.before in
     let start = turn.before.before in
-    let is = c.before.is-label-below.ensures start.args.n ∙ ap ((tableLabels start.args.n start.args.table.now).le (plain (start.args.n - 1))) c.before.before.label-from.ensures in
+    let is = c.before.is-label-below.ensures start.args.n ∙ ap ((table_labels start.args.n start.args.table.now).le (plain (start.args.n - 1))) c.before.before.label-from.ensures in
     ⊎_elim (λ w. (
       search rules,
       subst (Grown (Untop start.args.n start.args.table.now start.args.labels.now (turn.loop.v + 1)) start.args.keep.now) (sym w.1)

@@ -3,7 +3,7 @@ use Prim.Native.Nat.{◌-◌, ◌≤◌}
 use native.Mathlib.Omega.{arith}
 use mathlib.Core.Path.{sym, ◌∙◌, ap}
 use lib.ListN.{length, length-set}
-use Rattle.layout.specs.Builder.{putLabel}
+use Rattle.layout.specs.Builder.{put_label}
 use Rattle.layout.proofs.Builder.{length-put}
 use Rattle.keeping.specs.Keeping.{Markable}
 use Rattle.keeping.specs.Thinning.{Rows}
@@ -126,7 +126,7 @@ loop-again : tie.Need-loop-preserved invariant-loop decreases-loop
 loop-again c =
     let turn = c.before.before.before.before.before.before.before.before.before.before.before.loop in
     let test = c.before.before.before.before.before.before.before.before.before.before.loop-test.true in
-    (omega (arith, test), turn.invariant.1, rows_next turn.invariant.1 test turn.invariant.2 (c.before.before.before.before.before.before.put-label.ensures ∙ ap (putLabel turn.words turn.at) c.before.before.before.before.before.before.before.label-from.ensures) c.before.before.keep_row.ensures)
+    (omega (arith, test), turn.invariant.1, rows_next turn.invariant.1 test turn.invariant.2 (c.before.before.before.before.before.before.put-label.ensures ∙ ap (put_label turn.words turn.at) c.before.before.before.before.before.before.before.label-from.ensures) c.before.before.keep_row.ensures)
 
 same_length : tie.Need-same-length invariant-loop decreases-loop
 same_length c = c.before.loop.invariant.2.long ∙ sym c.before.before.before.before.before.before.before.requires.1.1

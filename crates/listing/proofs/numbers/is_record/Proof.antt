@@ -6,15 +6,15 @@ use native.Mathlib.Omega.{arith}
 use borrow.Author.Rules.{rules}
 use lib.ListN.{length, get_or}
 use lib.Seq.{ext_get_or}
-use Rattle.listed.specs.Listing.{recordOf}
+use Rattle.listed.specs.Listing.{record_of}
 use Rattle.listed.proofs.Order.{false-true}
-use Rattle.listing.specs.Numbers.{numberList}
+use Rattle.listing.specs.Numbers.{number_list}
 use Rattle.listing.proofs.Copying.{same_more}
 use Rattle.listing.proofs.numbers.is_record.Statement.{statement}
 use Rattle.listing.proofs.numbers.is_record.Tie as tie
 
 abbrev invariant-loop : tie.invariant-loop
-invariant-loop d bytes i₀ i = (i ≤ length bytes) × (length bytes ≡ length (recordOf (numberList d))) × ((j : ℕ) → j < i → get_or bytes j 0 ≡ get_or (recordOf (numberList d)) j 0)
+invariant-loop d bytes i₀ i = (i ≤ length bytes) × (length bytes ≡ length (record_of (number_list d))) × ((j : ℕ) → j < i → get_or bytes j 0 ≡ get_or (record_of (number_list d)) j 0)
 
 abbrev decreases-loop : tie.decreases-loop
 decreases-loop d bytes i₀ i = length bytes - i
@@ -55,14 +55,14 @@ loop-again c =
     let start = c.before.before.before.before.before.before.before.before in (
       omega arith,
       c.before.before.before.before.loop.invariant.1,
-      same_more start.args.bytes.now (recordOf (numberList start.args.d))
+      same_more start.args.bytes.now (record_of (number_list start.args.d))
           c.before.before.before.before.loop.i c.before.before.before.before.loop.invariant.2 (c.if2.false ∙ c.before.record-byte.ensures),
     )
 
 returns-3 : tie.Need-returns-3 invariant-loop decreases-loop
 returns-3 c =
     let start = c.before.before.before.before.before in (
-      λ e. ext_get_or 0 start.args.bytes.now (recordOf (numberList start.args.d)) c.before.loop.invariant.1
+      λ e. ext_get_or 0 start.args.bytes.now (record_of (number_list start.args.d)) c.before.loop.invariant.1
           (λ j h. c.before.loop.invariant.2 j (omega (arith, c.loop-test.false))),
       λ q. refl,
     )

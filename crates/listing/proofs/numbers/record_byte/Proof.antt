@@ -3,9 +3,9 @@ use mathlib.Core.Path.{◌∙◌, ap, sym}
 use Prim.Native.Nat.{ℕ}
 use borrow.Author.Rules.{rules}
 use lib.ListN.{get_or}
-use Rattle.listed.specs.Listing.{recordOf}
+use Rattle.listed.specs.Listing.{record_of}
 use Rattle.listed.proofs.Places.{byte-count, at_first, at_second, in-third, at-third}
-use Rattle.listing.specs.Numbers.{numberList}
+use Rattle.listing.specs.Numbers.{number_list}
 use Rattle.listing.proofs.numbers.record_byte.Statement.{statement}
 use Rattle.listing.proofs.numbers.record_byte.Tie as tie
 
@@ -13,7 +13,7 @@ returns : tie.Need-returns
 returns c =
     byte-count c.before.args.d.type0 c.before.args.d.links0 c.before.args.d.type1 c.before.args.d.links1
     c.before.args.d.type2 c.before.args.d.links2 c.before.args.d.nodes c.before.requires.0.0 c.before.requires.0.1 ∙ ap
-    (λ (i : ℕ). get_or (recordOf (numberList c.before.args.d)) i 0) (sym c.if1.true)
+    (λ (i : ℕ). get_or (record_of (number_list c.before.args.d)) i 0) (sym c.if1.true)
 
 width-requires : tie.Need-width-requires
 width-requires c κs = search rules

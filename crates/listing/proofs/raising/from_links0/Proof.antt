@@ -3,7 +3,7 @@ use mathlib.Core.Path.{ap, ◌∙◌}
 use mathlib.Core.List.{◌∷◌}
 use Prim.Native.Nat.{ℕ}
 use borrow.Author.Rules.{rules}
-use Rattle.listed.specs.Numbers.{leastType1}
+use Rattle.listed.specs.Numbers.{least_type1}
 use Rattle.listing.proofs.raising.from_links0.Statement.{statement}
 use Rattle.listing.proofs.raising.from_links0.Tie as tie
 
@@ -15,7 +15,7 @@ from-type1-requires c κs = search rules
 
 returns : tie.Need-returns
 returns c =
-    c.from-type1.ensures ∙ ap (λ (l : ℕ). c.before.before.args.nodes ∷ c.before.before.args.type0 ∷ l ∷ leastType1
+    c.from-type1.ensures ∙ ap (λ (l : ℕ). c.before.before.args.nodes ∷ c.before.before.args.type0 ∷ l ∷ least_type1
     c.before.before.args.features c.before.before.args.nodes l) c.before.root-span.ensures.0
 
 pub from-links0-spec : {M : Type 1} → statement M

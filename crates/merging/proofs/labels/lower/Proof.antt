@@ -1,11 +1,11 @@
 -- `lower` meets its contract. The loop's invariant: the nodes from v on have lowered the labels of their classes.
 use Rattle.std.proofs.Common.{◌+◌, ◌-◌, ◌*◌, get_or, ap, ◌∙◌, ap₂, arith}
 use Rattle.lattice.specs.Label.{Label}
-use Rattle.lattice.specs.Labels.{meetRanged}
-use Rattle.bounds.specs.Sets.{meetIn}
+use Rattle.lattice.specs.Labels.{meet_ranged}
+use Rattle.bounds.specs.Sets.{meet_in}
 use Rattle.lattice.proofs.Lawful.{known_more}
 use Rattle.layout.specs.Layout.{header}
-use Rattle.layout.specs.Builder.{putLabel}
+use Rattle.layout.specs.Builder.{put_label}
 use Rattle.layout.proofs.Order.{directory}
 use Rattle.merging.proofs.Lowering.{Lowering, lower-start, lower-step, lower-done, node-known, class-known}
 use Rattle.merging.proofs.labels.lower.Statement.{statement}
@@ -13,7 +13,7 @@ use Rattle.merging.proofs.labels.lower.Tie as tie
 
 abbrev invariant-loop : tie.invariant-loop
 invariant-loop n sets cells graph class shift labels₀ v₀ labels v =
-    Lowering (meetIn n sets cells) graph class shift labels₀ labels v
+    Lowering (meet_in n sets cells) graph class shift labels₀ labels v
 
 abbrev decreases-loop : tie.decreases-loop
 decreases-loop n sets cells graph class shift labels₀ v₀ labels v = v
@@ -64,7 +64,7 @@ loop-less : tie.Need-loop-smaller invariant-loop decreases-loop
 loop-less c = omega (arith, c.before.before.before.before.before.before.before.before.loop-test.true)
 
 loop-again : tie.Need-loop-preserved invariant-loop decreases-loop
-loop-again c = let w = c.before.before.before.before.before.before.before.before.before.before.before.before in let x = c.before.before.before.before.before.before.before.before.before.loop in lower-step x.invariant w.requires.1.1.0.0 c.before.before.before.before.before.before.before.before.loop-test.true (c.before.before.before.before.before.before.before.before.before.before.before.before.requires.1.1.1 (c.before.before.before.before.before.before.before.before.before.loop.v - 1) (omega (arith, c.before.before.before.before.before.before.before.before.loop-test.true, c.before.before.before.before.before.before.before.before.before.loop.invariant.most))) (c.put-label.ensures ∙ ap (putLabel x.labels (header * get_or w.args.class.now (w.args.shift + (x.v - 1)) 0)) (c.before.before.meet.ensures ∙ ap₂ (meetRanged (meetIn w.args.n w.args.sets.now w.args.cells.now)) c.before.before.before.before.before.before.label-at.ensures c.before.before.before.label-from.ensures))
+loop-again c = let w = c.before.before.before.before.before.before.before.before.before.before.before.before in let x = c.before.before.before.before.before.before.before.before.before.loop in lower-step x.invariant w.requires.1.1.0.0 c.before.before.before.before.before.before.before.before.loop-test.true (c.before.before.before.before.before.before.before.before.before.before.before.before.requires.1.1.1 (c.before.before.before.before.before.before.before.before.before.loop.v - 1) (omega (arith, c.before.before.before.before.before.before.before.before.loop-test.true, c.before.before.before.before.before.before.before.before.before.loop.invariant.most))) (c.put-label.ensures ∙ ap (put_label x.labels (header * get_or w.args.class.now (w.args.shift + (x.v - 1)) 0)) (c.before.before.meet.ensures ∙ ap₂ (meet_ranged (meet_in w.args.n w.args.sets.now w.args.cells.now)) c.before.before.before.before.before.before.label-at.ensures c.before.before.before.label-from.ensures))
 
 returns : tie.Need-returns invariant-loop decreases-loop
 returns c = (c.before.loop.invariant.long, (c.before.loop.invariant.below _ c.before.before.before.before.requires.1.1.0.0, lower-done c.before.loop.invariant (omega (arith, c.loop-test.false))))

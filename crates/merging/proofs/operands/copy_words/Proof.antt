@@ -1,6 +1,6 @@
 use Rattle.std.proofs.Common.{ℕ, ◌+◌, ◌-◌, ◌<◌, ◌≤◌, set, sym, subst, arith, rules}
 -- `copy_words` meets its contract. The loop's invariant: the words before k are copied.
-use Rattle.layout.specs.Layout.{size, rowFrom}
+use Rattle.layout.specs.Layout.{size, row_from}
 use Rattle.merging.specs.Rows.{WordsCopied}
 use Rattle.layout.proofs.Order.{directory, rows_inside, row_low}
 use Rattle.layout.proofs.Sums.{words-few}
@@ -11,7 +11,7 @@ use Rattle.std.proofs.num.wrapping_add_u16.Reads as wrapping-add-u16-reads
 
 abbrev invariant-loop : tie.invariant-loop
 invariant-loop graph at shift pool₀ nodes end moved k₀ next₀ pool k next =
-    WordsCopied graph k at shift pool₀ pool next × (rowFrom graph 0 ≤ k) × (k ≤ end) × (end < 65536)
+    WordsCopied graph k at shift pool₀ pool next × (row_from graph 0 ≤ k) × (k ≤ end) × (end < 65536)
 
 abbrev decreases-loop : tie.decreases-loop
 decreases-loop graph at shift pool₀ nodes end moved k₀ next₀ pool k next = end - k

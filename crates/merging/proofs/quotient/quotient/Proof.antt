@@ -1,6 +1,6 @@
 -- `quotient` meets its contract. The loop's invariant: the rows of the nodes before x are built.
 use Rattle.std.proofs.Common.{◌≡◌, ℕ, ◌+◌, ◌-◌, length, set, refl, ap, ◌∙◌, arith, length-set}
-use Rattle.layout.specs.Builder.{putLabel}
+use Rattle.layout.specs.Builder.{put_label}
 use Rattle.merging.proofs.Filling.{Filling, fill_start, fill-room, fill-asks, fill-bound, fill-place, fill-long, fill_step, fill_done, label-known}
 use Rattle.merging.proofs.quotient.quotient.Statement.{statement}
 use Rattle.merging.proofs.quotient.quotient.Tie as tie
@@ -64,10 +64,10 @@ add-copy-row : tie.Need-overflow-add-copy-row invariant-loop decreases-loop
 add-copy-row c = omega (arith, fill-room c.before.before.before.before.before.before.before.before.before.before.loop.invariant.0 c.before.before.before.before.before.before.before.before.before.loop-test.true, c.before.before.before.before.before.before.before.before.before.before.loop.invariant.0.long)
 
 copy-row-requires : tie.Need-copy-row-requires invariant-loop decreases-loop
-copy-row-requires c κs = rw c.before.end-of-row.ensures (fill-asks c.before.before.before.before.before.before.before.before.before.before.before.loop.invariant.0 c.before.before.before.before.before.before.before.before.before.before.loop-test.true (c.before.before.before.before.before.put-label.ensures ∙ ap (putLabel c.before.before.before.before.before.before.before.before.before.before.before.loop.graph c.before.before.before.before.before.before.before.before.before.before.before.loop.at) c.before.before.before.before.before.before.label-from.ensures))
+copy-row-requires c κs = rw c.before.end-of-row.ensures (fill-asks c.before.before.before.before.before.before.before.before.before.before.before.loop.invariant.0 c.before.before.before.before.before.before.before.before.before.before.loop-test.true (c.before.before.before.before.before.put-label.ensures ∙ ap (put_label c.before.before.before.before.before.before.before.before.before.before.before.loop.graph c.before.before.before.before.before.before.before.before.before.before.before.loop.at) c.before.before.before.before.before.before.label-from.ensures))
 
 cast-graph-3 : tie.Need-overflow-cast-graph-3 invariant-loop decreases-loop
-cast-graph-3 c = omega (arith, c.before.before.before.before.before.before.before.before.before.before.before.before.before.before.loop.invariant.0.long, fill-bound c.before.before.before.before.before.before.before.before.before.before.before.before.before.before.loop.invariant.0 c.before.before.before.before.before.before.before.before.before.before.before.before.before.loop-test.true (c.before.before.before.before.before.before.before.before.put-label.ensures ∙ ap (putLabel c.before.before.before.before.before.before.before.before.before.before.before.before.before.before.loop.graph c.before.before.before.before.before.before.before.before.before.before.before.before.before.before.loop.at) c.before.before.before.before.before.before.before.before.before.label-from.ensures) (rw c.before.before.before.before.end-of-row.ensures at c.before.before.copy-row.ensures))
+cast-graph-3 c = omega (arith, c.before.before.before.before.before.before.before.before.before.before.before.before.before.before.loop.invariant.0.long, fill-bound c.before.before.before.before.before.before.before.before.before.before.before.before.before.before.loop.invariant.0 c.before.before.before.before.before.before.before.before.before.before.before.before.before.loop-test.true (c.before.before.before.before.before.before.before.before.put-label.ensures ∙ ap (put_label c.before.before.before.before.before.before.before.before.before.before.before.before.before.before.loop.graph c.before.before.before.before.before.before.before.before.before.before.before.before.before.before.loop.at) c.before.before.before.before.before.before.before.before.before.label-from.ensures) (rw c.before.before.before.before.end-of-row.ensures at c.before.before.copy-row.ensures))
 
 add-graph : tie.Need-overflow-add-graph invariant-loop decreases-loop
 add-graph c = omega (arith, c.before.before.before.before.before.before.before.before.before.before.before.before.before.loop-test.true, c.before.before.before.before.before.before.before.before.before.before.before.before.before.before.loop.invariant.0.given.few)
@@ -76,7 +76,7 @@ mul-graph : tie.Need-overflow-mul-graph invariant-loop decreases-loop
 mul-graph c = omega (arith, c.before.before.before.before.before.before.before.before.before.before.before.before.before.loop-test.true, c.before.before.before.before.before.before.before.before.before.before.before.before.before.before.loop.invariant.0.given.few)
 
 slice-write-graph-3 : tie.Need-slice-write-graph-3 invariant-loop decreases-loop
-slice-write-graph-3 c = fill-place c.before.before.before.before.before.before.before.before.before.before.before.before.before.before.loop.invariant.0 c.before.before.before.before.before.before.before.before.before.before.before.before.before.loop-test.true (c.before.before.before.before.before.before.before.before.put-label.ensures ∙ ap (putLabel c.before.before.before.before.before.before.before.before.before.before.before.before.before.before.loop.graph c.before.before.before.before.before.before.before.before.before.before.before.before.before.before.loop.at) c.before.before.before.before.before.before.before.before.before.label-from.ensures) (rw c.before.before.before.before.end-of-row.ensures at c.before.before.copy-row.ensures)
+slice-write-graph-3 c = fill-place c.before.before.before.before.before.before.before.before.before.before.before.before.before.before.loop.invariant.0 c.before.before.before.before.before.before.before.before.before.before.before.before.before.loop-test.true (c.before.before.before.before.before.before.before.before.put-label.ensures ∙ ap (put_label c.before.before.before.before.before.before.before.before.before.before.before.before.before.before.loop.graph c.before.before.before.before.before.before.before.before.before.before.before.before.before.before.loop.at) c.before.before.before.before.before.before.before.before.before.label-from.ensures) (rw c.before.before.before.before.end-of-row.ensures at c.before.before.copy-row.ensures)
 
 add-x : tie.Need-overflow-add-x invariant-loop decreases-loop
 add-x c = omega (arith, c.before.before.before.before.before.before.before.before.before.before.before.before.before.loop-test.true, c.before.before.before.before.before.before.before.before.before.before.before.before.before.before.loop.invariant.0.given.few)
@@ -85,7 +85,7 @@ loop-less : tie.Need-loop-smaller invariant-loop decreases-loop
 loop-less c = omega (arith, c.before.before.before.before.before.before.before.before.before.before.before.before.before.loop-test.true)
 
 loop-again : tie.Need-loop-preserved invariant-loop decreases-loop
-loop-again c = (fill_step c.before.before.before.before.before.before.before.before.before.before.before.before.before.before.loop.invariant.0 c.before.before.before.before.before.before.before.before.before.before.before.before.before.loop-test.true (c.before.before.before.before.before.before.before.before.put-label.ensures ∙ ap (putLabel c.before.before.before.before.before.before.before.before.before.before.before.before.before.before.loop.graph c.before.before.before.before.before.before.before.before.before.before.before.before.before.before.loop.at) c.before.before.before.before.before.before.before.before.before.label-from.ensures) (rw c.before.before.before.before.end-of-row.ensures at c.before.before.copy-row.ensures), fill-long c.before.before.before.before.before.before.before.before.before.before.before.before.before.before.loop.invariant.0 c.before.before.before.before.before.before.before.before.before.before.before.before.before.loop-test.true (c.before.before.before.before.before.before.before.before.put-label.ensures ∙ ap (putLabel c.before.before.before.before.before.before.before.before.before.before.before.before.before.before.loop.graph c.before.before.before.before.before.before.before.before.before.before.before.before.before.before.loop.at) c.before.before.before.before.before.before.before.before.before.label-from.ensures) (rw c.before.before.before.before.end-of-row.ensures at c.before.before.copy-row.ensures) ∙ c.before.before.before.before.before.before.before.before.before.before.before.before.before.before.loop.invariant.1)
+loop-again c = (fill_step c.before.before.before.before.before.before.before.before.before.before.before.before.before.before.loop.invariant.0 c.before.before.before.before.before.before.before.before.before.before.before.before.before.loop-test.true (c.before.before.before.before.before.before.before.before.put-label.ensures ∙ ap (put_label c.before.before.before.before.before.before.before.before.before.before.before.before.before.before.loop.graph c.before.before.before.before.before.before.before.before.before.before.before.before.before.before.loop.at) c.before.before.before.before.before.before.before.before.before.label-from.ensures) (rw c.before.before.before.before.end-of-row.ensures at c.before.before.copy-row.ensures), fill-long c.before.before.before.before.before.before.before.before.before.before.before.before.before.before.loop.invariant.0 c.before.before.before.before.before.before.before.before.before.before.before.before.before.loop-test.true (c.before.before.before.before.before.before.before.before.put-label.ensures ∙ ap (put_label c.before.before.before.before.before.before.before.before.before.before.before.before.before.before.loop.graph c.before.before.before.before.before.before.before.before.before.before.before.before.before.before.loop.at) c.before.before.before.before.before.before.before.before.before.label-from.ensures) (rw c.before.before.before.before.end-of-row.ensures at c.before.before.copy-row.ensures) ∙ c.before.before.before.before.before.before.before.before.before.before.before.before.before.before.loop.invariant.1)
 
 same_length : tie.Need-same-length invariant-loop decreases-loop
 same_length c = c.before.loop.invariant.1 ∙ length-set {A = ℕ} (set c.before.before.before.before.args.graph.now 0 c.before.before.before.before.args.nodes) 1 (c.before.before.before.before.args.nodes + 2) ∙ length-set {A = ℕ} c.before.before.before.before.args.graph.now 0 c.before.before.before.before.args.nodes

@@ -8,7 +8,7 @@ use lib.ListN.{take}
 use Rattle.graphs.specs.Rows.{Row}
 use Rattle.lattice.specs.Label.{Label}
 use Rattle.record.specs.Read.{judged}
-use Rattle.rows.specs.Rows.{hasTwice, nodesIn}
+use Rattle.rows.specs.Rows.{has_twice, nodes_in}
 use Rattle.rows.proofs.Known.{known-near}
 use Rattle.rows.proofs.Tables.{placed-table}
 use Rattle.engine.specs.Rewriting.{rewritten}
@@ -30,10 +30,10 @@ returns-2 : tie.Need-returns-2
 returns-2 c = import-unknown c.before.before.before.before.before.before.args.n c.before.before.before.before.before.before.args.count (take c.before.before.before.before.before.before.args.count c.before.before.before.before.before.before.args.all) c.before.before.before.before.before.before.args.nodes.now c.before.before.before.before.before.before.args.out.now (sym c.before.before.before.is-sized.ensures ∙ not-false c.before.before.before.is-sized.result c.before.before.if1.false) (sym c.before.all_known.ensures ∙ not-true c.before.all_known.result c.if2.true)
 
 place-rows-requires : tie.Need-place-rows-requires
-place-rows-requires c κs = let parts = sized-parts c.before.before.before.before.before.before.before.args.nodes.now c.before.before.before.before.before.before.before.args.count (sym c.before.before.before.before.is-sized.ensures ∙ not-false c.before.before.before.before.is-sized.result c.before.before.before.if1.false) in ((parts.2, search rules), (known-near (nodesIn c.before.before.before.before.before.before.before.args.nodes.now) c.before.before.before.before.before.before.before.args.count c.before.before.before.before.before.before.before.args.all parts.1 (search (rules, parts.2)) (sym c.before.before.all_known.ensures ∙ not-false c.before.before.all_known.result c.before.if2.false), none-placed))
+place-rows-requires c κs = let parts = sized-parts c.before.before.before.before.before.before.before.args.nodes.now c.before.before.before.before.before.before.before.args.count (sym c.before.before.before.before.is-sized.ensures ∙ not-false c.before.before.before.before.is-sized.result c.before.before.before.if1.false) in ((parts.2, search rules), (known-near (nodes_in c.before.before.before.before.before.before.before.args.nodes.now) c.before.before.before.before.before.before.before.args.count c.before.before.before.before.before.before.before.args.all parts.1 (search (rules, parts.2)) (sym c.before.before.all_known.ensures ∙ not-false c.before.before.all_known.result c.before.if2.false), none-placed))
 
 returns-3 : tie.Need-returns-3
-returns-3 c = import-twice c.before.before.before.before.before.before.before.before.before.args.n c.before.before.before.before.before.before.before.before.before.args.count (take c.before.before.before.before.before.before.before.before.before.args.count c.before.before.before.before.before.before.before.before.before.args.all) c.before.before.before.before.before.before.before.before.before.args.nodes.now c.before.before.before.before.before.before.before.before.before.args.out.now (sym c.before.before.before.before.before.before.is-sized.ensures ∙ not-false c.before.before.before.before.before.before.is-sized.result c.before.before.before.before.before.if1.false) (sym c.before.before.before.before.all_known.ensures ∙ not-false c.before.before.before.before.all_known.result c.before.before.before.if2.false) (not-twice (hasTwice (take c.before.before.before.before.before.before.before.before.before.args.count c.before.before.before.before.before.before.before.before.before.args.all)) c.before.place-rows.ensures.0 (not-true c.before.place-rows.result c.if3.true))
+returns-3 c = import-twice c.before.before.before.before.before.before.before.before.before.args.n c.before.before.before.before.before.before.before.before.before.args.count (take c.before.before.before.before.before.before.before.before.before.args.count c.before.before.before.before.before.before.before.before.before.args.all) c.before.before.before.before.before.before.before.before.before.args.nodes.now c.before.before.before.before.before.before.before.before.before.args.out.now (sym c.before.before.before.before.before.before.is-sized.ensures ∙ not-false c.before.before.before.before.before.before.is-sized.result c.before.before.before.before.before.if1.false) (sym c.before.before.before.before.all_known.ensures ∙ not-false c.before.before.before.before.all_known.result c.before.before.before.if2.false) (not-twice (has_twice (take c.before.before.before.before.before.before.before.before.before.args.count c.before.before.before.before.before.before.before.before.before.args.all)) c.before.place-rows.ensures.0 (not-true c.before.place-rows.result c.if3.true))
 
 import-placed-requires : tie.Need-import-placed-requires
 import-placed-requires c κs = (c.before.before.before.before.before.before.before.before.before.before.before.requires, placeable c.before.before.before.before.before.before.before.before.before.before.before.args.nodes.now c.before.before.before.place-rows.new.1.1.0 c.before.before.before.before.before.before.before.before.before.before.before.args.all c.before.before.before.before.before.before.before.before.before.before.before.args.count (sym c.before.before.before.before.before.before.before.before.is-sized.ensures ∙ not-false c.before.before.before.before.before.before.before.before.is-sized.result c.before.before.before.before.before.before.before.if1.false) (search rules) (c.before.before.before.place-rows.ensures.1 (not-false c.before.before.before.place-rows.result c.before.before.if3.false)) c.before.before.before.place-rows.ensures.2)
@@ -42,7 +42,7 @@ same_length : tie.Need-same-length
 same_length c = search rules
 
 returns-4 : tie.Need-returns-4
-returns-4 c = c.before.before.import-placed.ensures ∙ ap (λ (rows : List (Row Label)). rewritten (judged c.before.before.before.before.before.before.before.before.before.before.before.before.before.before.args.n (some rows)) c.before.before.before.before.before.before.before.before.before.before.before.before.before.before.args.out.now) (placed-table c.before.before.before.before.before.before.before.before.before.before.before.before.before.before.args.nodes.now c.before.before.before.before.before.before.place-rows.new.1.1.0 (take c.before.before.before.before.before.before.before.before.before.before.before.before.before.before.args.count c.before.before.before.before.before.before.before.before.before.before.before.before.before.before.args.all) (sized-parts c.before.before.before.before.before.before.before.before.before.before.before.before.before.before.args.nodes.now c.before.before.before.before.before.before.before.before.before.before.before.before.before.before.args.count (sym c.before.before.before.before.before.before.before.before.before.before.before.is-sized.ensures ∙ not-false c.before.before.before.before.before.before.before.before.before.before.before.is-sized.result c.before.before.before.before.before.before.before.before.before.before.if1.false)).1 (c.before.before.before.before.before.before.place-rows.ensures.1 (not-false c.before.before.before.before.before.before.place-rows.result c.before.before.before.before.before.if3.false))) ∙ sym (import-written c.before.before.before.before.before.before.before.before.before.before.before.before.before.before.args.n c.before.before.before.before.before.before.before.before.before.before.before.before.before.before.args.count (take c.before.before.before.before.before.before.before.before.before.before.before.before.before.before.args.count c.before.before.before.before.before.before.before.before.before.before.before.before.before.before.args.all) c.before.before.before.before.before.before.before.before.before.before.before.before.before.before.args.nodes.now c.before.before.before.before.before.before.before.before.before.before.before.before.before.before.args.out.now (sym c.before.before.before.before.before.before.before.before.before.before.before.is-sized.ensures ∙ not-false c.before.before.before.before.before.before.before.before.before.before.before.is-sized.result c.before.before.before.before.before.before.before.before.before.before.if1.false) (sym c.before.before.before.before.before.before.before.before.before.all_known.ensures ∙ not-false c.before.before.before.before.before.before.before.before.before.all_known.result c.before.before.before.before.before.before.before.before.if2.false) (not-not (hasTwice (take c.before.before.before.before.before.before.before.before.before.before.before.before.before.before.args.count c.before.before.before.before.before.before.before.before.before.before.before.before.before.before.args.all)) c.before.before.before.before.before.before.place-rows.ensures.0 (not-false c.before.before.before.before.before.before.place-rows.result c.before.before.before.before.before.if3.false)))
+returns-4 c = c.before.before.import-placed.ensures ∙ ap (λ (rows : List (Row Label)). rewritten (judged c.before.before.before.before.before.before.before.before.before.before.before.before.before.before.args.n (some rows)) c.before.before.before.before.before.before.before.before.before.before.before.before.before.before.args.out.now) (placed-table c.before.before.before.before.before.before.before.before.before.before.before.before.before.before.args.nodes.now c.before.before.before.before.before.before.place-rows.new.1.1.0 (take c.before.before.before.before.before.before.before.before.before.before.before.before.before.before.args.count c.before.before.before.before.before.before.before.before.before.before.before.before.before.before.args.all) (sized-parts c.before.before.before.before.before.before.before.before.before.before.before.before.before.before.args.nodes.now c.before.before.before.before.before.before.before.before.before.before.before.before.before.before.args.count (sym c.before.before.before.before.before.before.before.before.before.before.before.is-sized.ensures ∙ not-false c.before.before.before.before.before.before.before.before.before.before.before.is-sized.result c.before.before.before.before.before.before.before.before.before.before.if1.false)).1 (c.before.before.before.before.before.before.place-rows.ensures.1 (not-false c.before.before.before.before.before.before.place-rows.result c.before.before.before.before.before.if3.false))) ∙ sym (import-written c.before.before.before.before.before.before.before.before.before.before.before.before.before.before.args.n c.before.before.before.before.before.before.before.before.before.before.before.before.before.before.args.count (take c.before.before.before.before.before.before.before.before.before.before.before.before.before.before.args.count c.before.before.before.before.before.before.before.before.before.before.before.before.before.before.args.all) c.before.before.before.before.before.before.before.before.before.before.before.before.before.before.args.nodes.now c.before.before.before.before.before.before.before.before.before.before.before.before.before.before.args.out.now (sym c.before.before.before.before.before.before.before.before.before.before.before.is-sized.ensures ∙ not-false c.before.before.before.before.before.before.before.before.before.before.before.is-sized.result c.before.before.before.before.before.before.before.before.before.before.if1.false) (sym c.before.before.before.before.before.before.before.before.before.all_known.ensures ∙ not-false c.before.before.before.before.before.before.before.before.before.all_known.result c.before.before.before.before.before.before.before.before.if2.false) (not-not (has_twice (take c.before.before.before.before.before.before.before.before.before.before.before.before.before.before.args.count c.before.before.before.before.before.before.before.before.before.before.before.before.before.before.args.all)) c.before.before.before.before.before.before.place-rows.ensures.0 (not-false c.before.before.before.before.before.before.place-rows.result c.before.before.before.before.before.if3.false)))
 
 pub import-accepted-spec : {M : Type 1} → statement M
 import-accepted-spec =

@@ -6,16 +6,16 @@ use Prim.Native.Nat.{ℕ, ◌+◌, ◌*◌}
 use native.Mathlib.Omega.{arith}
 use borrow.Author.Rules.{rules}
 use lib.Dec.{eqb}
-use Rattle.graphs.specs.Large.{linksIn}
-use Rattle.layout.specs.Layout.{Shaped, header, rowFrom, rowsEnd, rows_of, size}
+use Rattle.graphs.specs.Large.{links_in}
+use Rattle.layout.specs.Layout.{Shaped, header, row_from, rows_end, rows_of, size}
 use Rattle.layout.proofs.Order.{directory}
-use Rattle.layout.proofs.Sums.{rows_end}
+use Rattle.layout.proofs.Sums.{rows_end_lem}
 use Rattle.record.proofs.reading.has_ranges.Statement.{statement}
 use Rattle.record.proofs.reading.has_ranges.Tie as tie
 
 -- where the last row ends
-ends : {ws : List ℕ} → Shaped ws → rowsEnd ws ≡ rowFrom ws 0 + size ws * header + linksIn (rows_of ws)
-ends {ws} shaped = rows_end ws shaped (size ws) (omega arith)
+ends : {ws : List ℕ} → Shaped ws → rows_end ws ≡ row_from ws 0 + size ws * header + links_in (rows_of ws)
+ends {ws} shaped = rows_end_lem ws shaped (size ws) (omega arith)
 
 shared-slice-read-nodes : tie.Need-shared-slice-read-nodes
 shared-slice-read-nodes c = omega (arith, directory c.before.requires)

@@ -5,13 +5,13 @@ use native.Mathlib.Omega.{arith}
 use borrow.Author.Rules.{rules}
 use Rattle.lattice.specs.Label.{Label}
 use Rattle.lattice.specs.Labels.{Known}
-use Rattle.rows.specs.Rows.{nodesIn}
+use Rattle.rows.specs.Rows.{nodes_in}
 use Rattle.rows.proofs.FilledRows.{Stated, stated-none, stated-more, stated-stop, stated-end}
 use Rattle.rows.proofs.filling.are_stated.Statement.{statement}
 use Rattle.rows.proofs.filling.are_stated.Tie as tie
 
 abbrev invariant-loop : tie.invariant-loop
-invariant-loop nodes count v₀ v = (count ≡ nodesIn nodes) × (v ≤ count) × Stated nodes v
+invariant-loop nodes count v₀ v = (count ≡ nodes_in nodes) × (v ≤ count) × Stated nodes v
 
 abbrev decreases-loop : tie.decreases-loop
 decreases-loop nodes count v₀ v = count - v

@@ -4,7 +4,7 @@ use mathlib.Core.Logic.{⊎_elim}
 use Prim.Native.Nat.{◌-◌}
 use native.Mathlib.Omega.{arith}
 use borrow.Author.Rules.{rules}
-use Rattle.layout.specs.Builder.{putLabel}
+use Rattle.layout.specs.Builder.{put_label}
 use Rattle.rows.proofs.FilledRows.{Turn, turn-start, turn-none, turn-some, turn-done, turn-room, turn-target}
 use Rattle.rows.proofs.filling.fill_row.Statement.{statement}
 use Rattle.rows.proofs.filling.fill_row.Tie as tie
@@ -25,7 +25,7 @@ add-next : tie.Need-overflow-add-next invariant-loop decreases-loop
 add-next c = omega (arith, c.before.before.before.before.requires.1.0)
 
 loop-holds : tie.Need-loop-init invariant-loop decreases-loop
-loop-holds c = turn-start c.before.before.before.before.args.graph.now c.before.before.before.before.requires.0.0 c.before.before.before.before.requires.0.1 c.before.before.before.before.requires.1.0 c.before.before.before.before.requires.1.1 (c.put-label.ensures ∙ ap (putLabel c.before.before.before.before.args.graph.now c.before.before.before.before.args.at) c.before.before.label-in.ensures)
+loop-holds c = turn-start c.before.before.before.before.args.graph.now c.before.before.before.before.requires.0.0 c.before.before.before.before.requires.0.1 c.before.before.before.before.requires.1.0 c.before.before.before.before.requires.1.1 (c.put-label.ensures ∙ ap (put_label c.before.before.before.before.args.graph.now c.before.before.before.before.args.at) c.before.before.label-in.ensures)
 
 mul-cell : tie.Need-overflow-mul-cell invariant-loop decreases-loop
 mul-cell c = omega (arith, c.before.loop.invariant.inside, c.before.loop.invariant.fillable.few, c.before.loop.invariant.fillable.long, c.loop-test.true)
@@ -67,7 +67,7 @@ loop-again : tie.Need-loop-preserved invariant-loop decreases-loop
 loop-again c = ⊎_elim (λ w. rw (w.2, w.3) (turn-some c.before.before.before.loop.invariant c.before.before.loop-test.true (search rules) w.1.ensures)) (λ w. rw (w.1, w.2) (turn-none c.before.before.before.loop.invariant c.before.before.loop-test.true (search rules))) c.if1.branch
 
 returns : tie.Need-returns invariant-loop decreases-loop
-returns c = turn-done c.before.before.before.before.before.before.args.graph.now (c.before.before.put-label.ensures ∙ ap (putLabel c.before.before.before.before.before.before.args.graph.now c.before.before.before.before.before.before.args.at) c.before.before.before.before.label-in.ensures) c.before.loop.invariant c.loop-test.false
+returns c = turn-done c.before.before.before.before.before.before.args.graph.now (c.before.before.put-label.ensures ∙ ap (put_label c.before.before.before.before.before.before.args.graph.now c.before.before.before.before.before.before.args.at) c.before.before.before.before.label-in.ensures) c.before.loop.invariant c.loop-test.false
 
 pub fill-row-spec : {M : Type 1} → statement M
 fill-row-spec =

@@ -3,7 +3,7 @@ use mathlib.Core.Path.{refl}
 use Prim.Native.Nat.{◌+◌, ◌-◌}
 use native.Mathlib.Omega.{arith}
 use borrow.Author.Rules.{rules}
-use Rattle.layout.specs.Layout.{rowsEnd}
+use Rattle.layout.specs.Layout.{rows_end}
 use Rattle.layout.proofs.Order.{directory}
 use Rattle.rows.proofs.LentRows.{Making, making-start, making-inside, making-before, making-room, making-feature, making-target, making-link, making-row, making-done}
 use Rattle.rows.proofs.lending.lend_rows.Statement.{statement}
@@ -13,7 +13,7 @@ abbrev invariant-loop : tie.invariant-loop
 invariant-loop graph all₀ nodes i₀ v₀ k₀ all i v k = Making graph all i v k
 
 abbrev decreases-loop : tie.decreases-loop
-decreases-loop graph all₀ nodes i₀ v₀ k₀ all i v k = rowsEnd graph + 2 - k
+decreases-loop graph all₀ nodes i₀ v₀ k₀ all i v k = rows_end graph + 2 - k
 
 shared-slice-read-nodes : tie.Need-shared-slice-read-nodes invariant-loop decreases-loop
 shared-slice-read-nodes c = omega (arith, directory c.before.before.requires.sound.shaped)

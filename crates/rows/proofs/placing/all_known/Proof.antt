@@ -1,4 +1,4 @@
--- `placing::all_known` meets its contract. The loop's invariant: all rows are known exactly where those from i on are.
+-- `placing::all_known_lem` meets its contract. The loop's invariant: all rows are known exactly where those from i on are.
 use mathlib.Core.Path.{refl, sym, ◌∙◌}
 use borrow.Author.Tests.{not-true, not-false}
 use Prim.Native.Nat.{◌-◌, ◌≤◌}

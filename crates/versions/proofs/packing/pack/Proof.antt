@@ -6,7 +6,7 @@ use lib.ListN.{length, take}
 use Rattle.gathering.proofs.Told.{none-some}
 use Rattle.replies.specs.Reply.{length_of}
 use Rattle.versions.specs.State.{stored}
-use Rattle.versions.specs.Slots.{programsIn}
+use Rattle.versions.specs.Slots.{programs_in}
 use Rattle.gathering.proofs.Told.{no_length}
 use Rattle.versions.proofs.Lengths.{none-bounded, length-bounded}
 use Rattle.versions.proofs.Packs.{Packing, start-long, packing-start, packing-step, packing-stops, packing-fits, packing-over}
@@ -52,12 +52,12 @@ kept x = x.loop.inv.long ∙ begun x
 
 whole : (x : Turn) →
     stored (start x).args.n (start x).args.table.now (length x.before.before.before.put-measured.last.1.1.0) (start x).args.part.now
-    (take (start x).args.count (programsIn (start x).args.slots.now)) ≡
+    (take (start x).args.count (programs_in (start x).args.slots.now)) ≡
     stored (start x).args.n (start x).args.table.now (length (start x).args.state.now) (start x).args.part.now
-    (take (start x).args.count (programsIn (start x).args.slots.now))
+    (take (start x).args.count (programs_in (start x).args.slots.now))
 whole x =
     ap (λ (room : ℕ). stored (start x).args.n (start x).args.table.now room (start x).args.part.now
-    (take (start x).args.count (programsIn (start x).args.slots.now))) (begun x)
+    (take (start x).args.count (programs_in (start x).args.slots.now))) (begun x)
 
 map-of-requires : tie.Need-map-of-requires invariant-loop decreases-loop
 map-of-requires c κs = search rules

@@ -6,7 +6,7 @@ use native.Mathlib.Omega.{arith}
 use borrow.Author.Rules.{rules}
 use borrow.Fn.Kinds.{In}
 use borrow.Fn.PlainCycle.{Measures, is, falls, and}
-use Rattle.visits.specs.Visiting.{seenOf, below}
+use Rattle.visits.specs.Visiting.{seen_of, below}
 use Rattle.visits.proofs.Visiting.{
   Follows,
   follow,
@@ -44,7 +44,7 @@ calls t = and 3 kinds.ps (falls 3 kinds.ps ◌<◌ μ-visit t) visit.Pre
 
 abbrev Inv : lts.invariant-loop
 Inv graph numbers₀ visited₀ v depth given count₀ end k₀ numbers visited count k =
-    Follows graph v depth (below graph depth v (seenOf visited₀ given)) numbers visited count k
+    Follows graph v depth (below graph depth v (seen_of visited₀ given)) numbers visited count k
 
 abbrev μ : lts.decreases-loop
 μ graph numbers₀ visited₀ v depth given count₀ end k₀ numbers visited count k = end - k
