@@ -1,6 +1,9 @@
 // This crate tests a type table (document 01, "Type table"): the table is accepted, or refused by 1, 2 or 3. It tests the size, then the order
 // (`order`) and the bounds (`covers`) by the words of `lattice`, and it fills no table of bounds: crate `bounds` does. The crate knows tables,
 // and nothing of records.
+
+#![tactic(auto)]
+
 ghost use Rattle.std.specs.Prelude.{◌≡◌, true, false, cond, List, ℕ, ◌≤◌};
 ghost use Rattle.acceptance.specs.declared.TableFault.TheVariants.{Bounds};
 ghost use Rattle.acceptance.specs.declared.Opened.TheVariants.{Accepted, Refused};
@@ -12,7 +15,7 @@ pub mod covers;
 pub mod order;
 
 // Why a table is refused: document 01's refusals 1, 2 and 3.
-#[derive(Drop)]
+#[derive(Clone, Copy)]
 pub enum TableFault {
     Size,
     Order,
@@ -20,7 +23,7 @@ pub enum TableFault {
 }
 
 // What opening a table answers: the table is accepted, or why it is refused.
-#[derive(Drop)]
+#[derive(Clone, Copy)]
 pub enum Opened {
     Accepted,
     Refused(TableFault),

@@ -55,7 +55,7 @@ pub fn are_rows_set(n: usize, down: &[u64; 64]) -> bool
 }
 
 // `word`: the types that a type covers. `ordered`: whether all types below these are strictly below that type.
-#[derive(Drop)]
+#[derive(Clone, Copy)]
 pub struct Covers {
     pub ordered: bool,
     pub word: u64,

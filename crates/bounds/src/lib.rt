@@ -1,6 +1,9 @@
 // This crate opens a table for meets or for joins (document 01, "Type table"; document 02, Paper 12): the table is accepted, or refused
 // by 1, 2 or 3. After acceptance the sets or cells that the caller lends hold the bounds of one side. The crate knows tables, and
 // nothing of records.
+
+#![tactic(auto)]
+
 ghost use Rattle.std.specs.Prelude.{◌≡◌, true, length};
 ghost use Rattle.lattice.specs.Table.{sized, ordered, side_bound};
 ghost use Rattle.bounds.specs.Opening.{Chooses, Fills, Opening};
@@ -12,7 +15,7 @@ mod primes;
 pub mod sets;
 
 // The form in which the bounds of a table are held: as sets, or in cells that are still to be filled. Or the table is refused.
-#[derive(Drop)]
+#[derive(Clone, Copy)]
 pub enum Form {
     Refused(TableFault),
     AsSets,

@@ -24,7 +24,7 @@ fn is_prime(n: usize, down: &[u64; 64], above: u64) -> bool
 
 // Whether every irreducible type is prime. If so, `types` is the word of the irreducible types, and `above[j]` is the word of the types
 // above the irreducible type j.
-#[derive(Drop)]
+#[derive(Clone, Copy)]
 pub struct Irreducibles {
     pub primes: bool,
     pub types: u64,

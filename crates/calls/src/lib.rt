@@ -2,6 +2,8 @@
 // caller lends. A call on records checks the table, then the list if it has one, and goes on in `engine` or `orders`. Every call answers a
 // `Reply`, and a refusal leaves every output unchanged. This crate knows tables and lists; those two do the operations.
 
+#![tactic(auto)]
+
 pub mod checking;
 pub mod differing;
 pub mod generalizing;

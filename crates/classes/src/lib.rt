@@ -2,6 +2,8 @@
 // features of one class lead to two nodes. A class is represented by its lowest node, which has a row with the links of all its nodes. This
 // crate knows graphs in words alone.
 
+#![tactic(auto)]
+
 pub mod forest;
 pub mod rows;
 

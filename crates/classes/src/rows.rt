@@ -7,7 +7,7 @@ ghost use Rattle.classes.specs.Merge.{Merges, Places, Span, feature_or, pair_wor
 use layout::SCALE;
 
 // How many places are used, and how many pairs wait.
-#[derive(Drop)]
+#[derive(Clone, Copy)]
 pub struct Reach {
     pub used: usize,
     pub count: usize,

@@ -1,6 +1,8 @@
 // The programs that a trusted buffer holds (document 02, Paper 11): a version is put among them, dropped from them or read. A buffer is trusted
 // only where the way of its programs ends in its first bytes. The crate knows an accepted table, records and the way of the programs.
 
+#![tactic(auto)]
+
 ghost use Rattle.std.specs.Prelude.{◌≡◌, true, ◌≤◌, get_or, length};
 ghost use Rattle.std.proofs.Math.Option.{none};
 ghost use Rattle.bounds.specs.Opening.{OpenedFor};

@@ -3,6 +3,8 @@
 // `groups` goes on from the owners and the classes. This crate knows graphs in words, a map of the nodes of g to those of s, and the forest
 // of `classes`.
 
+#![tactic(auto)]
+
 ghost use Rattle.std.specs.Prelude.{◌≡◌, ℕ, ◌<◌, length, get_or};
 ghost use Rattle.layout.specs.Layout.{size, row_from, row_end};
 ghost use Rattle.classes.specs.Forest.{Forest};

@@ -7,21 +7,21 @@ ghost use Rattle.decode.specs.Word.{word_of};
 ghost use Rattle.decode.specs.Reader.{byte_step, map_step};
 
 // A record's bytes and the position of the next byte.
-#[derive(Drop)]
+#[derive(Clone, Copy)]
 pub struct Reader<'a> {
     pub bytes: &'a [u8],
     pub next: usize,
 }
 
 // The next byte and the position behind it; or the record ends.
-#[derive(Drop)]
+#[derive(Clone, Copy)]
 pub enum Step {
     Byte(u8, usize),
     End,
 }
 
 // The next eight bytes as a feature map, and the position behind them; or the record ends.
-#[derive(Drop)]
+#[derive(Clone, Copy)]
 pub enum MapStep {
     Map(u64, usize),
     Cut,

@@ -16,14 +16,14 @@ pub const LINKS: usize = 2048;
 pub const SHORT: usize = 510;
 
 // Where a row ends: the position of the next byte and the place of the next word; or the bytes or the room for links run out.
-#[derive(Drop)]
+#[derive(Clone, Copy)]
 pub enum RowEnd {
     At(usize, usize),
     Short,
 }
 
 // A label and the position behind it; or the record ends before the label does.
-#[derive(Drop)]
+#[derive(Clone, Copy)]
 pub enum LabelStep {
     Found(Label, usize),
     Cut,

@@ -3,6 +3,8 @@
 // for them, the reasons for the links of the difference (document 02, Paper 13). This crate knows graphs in words, an accepted table and
 // replies; it reads no record.
 
+#![tactic(auto)]
+
 ghost use Rattle.std.specs.Prelude.{◌≡◌, List, ℕ, length};
 ghost use Rattle.link_orders.specs.LinkOrders.{Fitting};
 ghost use Rattle.keeping.specs.Keeping.{Markable};
@@ -18,7 +20,7 @@ use replies::Reply;
 use subsume::Order;
 
 // A call for a difference chooses the order of links, and whether the reasons are written beside the record.
-#[derive(Drop)]
+#[derive(Clone, Copy)]
 pub struct Options {
     pub order: LinkOrder,
     pub explained: bool,

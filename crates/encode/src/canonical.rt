@@ -11,7 +11,7 @@ ghost use Rattle.encode.specs.Marks.{Measured, marks_along, marked_out, noting};
 use crate::{Marked, Written, marks};
 
 // Whether a graph is too large for a record; if not, how many nodes and links are written, and the record's length.
-#[derive(Drop)]
+#[derive(Clone, Copy)]
 pub struct Dimensions {
     pub large: bool,
     pub count: usize,

@@ -1,6 +1,8 @@
 // This crate encodes a graph in words, whose nodes are numbered, as a record's bytes. There is one encoder for every result. The crate knows
 // graphs in words and a record's bytes. It does not number nodes, and it knows no table.
 
+#![tactic(auto)]
+
 ghost use Rattle.std.specs.Prelude.{length, take, ◌≡◌, ◌+◌, ◌≤◌, ◌<◌};
 ghost use Rattle.std.proofs.lemmas.List.Edits.{sets};
 ghost use Rattle.layout.specs.Builder.{stated};
@@ -11,7 +13,7 @@ ghost use Rattle.encoder.specs.NumberedRows.{Visited, degrees, low_bytes, number
 use layout::Label;
 
 // How many links some nodes have, and how many of the nodes have a range that is written.
-#[derive(Drop)]
+#[derive(Clone, Copy)]
 pub struct Extent {
     pub links: usize,
     pub ranges: usize,

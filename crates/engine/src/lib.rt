@@ -3,6 +3,8 @@
 // part and combination take a list of types for features; an empty list stands for no list. This crate knows records, an accepted table and
 // these operations; it opens no table.
 
+#![tactic(auto)]
+
 pub mod differing;
 pub mod generalizing;
 pub mod rewriting;

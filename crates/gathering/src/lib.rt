@@ -4,6 +4,8 @@
 // refused call changes no byte. This crate knows the bytes of a gathering; `acceptance` and `bounds` open its table, and `record`, `engine` and
 // `orders` work on records.
 
+#![tactic(auto)]
+
 ghost use Rattle.std.specs.Prelude.{◌≡◌};
 ghost use Rattle.record.specs.Read.{reading};
 ghost use Rattle.replies.specs.Reply.{resulting};

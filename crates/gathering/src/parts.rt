@@ -7,7 +7,7 @@ ghost use Rattle.gathering.specs.Parts.{PartsOf, Span};
 
 // The number of types, where the table starts and ends, where the room starts, how many bytes are gathered, and where they end. A part that is
 // cut off ends at the end of the state.
-#[derive(Drop)]
+#[derive(Clone, Copy)]
 pub struct Parts {
     pub types: usize,
     pub start: usize,

@@ -2,6 +2,8 @@
 // the pairs, and `product` finds them and adds the links of each. This crate gives each pair the join of its labels. It knows graphs in words and
 // the joins that `bounds` holds; `encode` writes the result.
 
+#![tactic(auto)]
+
 ghost use Rattle.std.specs.Prelude.{◌≡◌, true, ◌≤◌, ◌<◌, length};
 ghost use Rattle.lattice.specs.Labels.{join_ranged};
 ghost use Rattle.bounds.specs.Sets.{Seekable, join_in};
@@ -48,7 +50,7 @@ fn join<'a>(
 }
 
 // The answer of building in lent words: what writing the result answers, or that the words are too few.
-#[derive(Drop)]
+#[derive(Clone, Copy)]
 pub enum Common {
     Written(Written),
     TooFew,

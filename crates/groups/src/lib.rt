@@ -3,6 +3,8 @@
 // `link_orders` gives the rank of each feature. `difference` asks for the marks, and `keeping` goes on from them. This crate knows graphs in
 // words and an order of links.
 
+#![tactic(auto)]
+
 ghost use Rattle.std.specs.Prelude.{◌≡◌, ℕ, ◌+◌, ◌<◌, length};
 ghost use Rattle.layout.specs.Layout.{Place};
 ghost use Rattle.cover.specs.Cover.{Lying, Unowned};

@@ -2,6 +2,9 @@
 // type is 16 times its first grade plus 4 times its second plus its third. A type is below another when each of its grades is at most the
 // other's. `meets` has the meets of all pairs as a constant, and `fill_table` writes the type table that states the order. The crate knows
 // what a type table is, and nothing of records.
+
+#![tactic(auto)]
+
 ghost use Rattle.std.specs.Prelude.{◌≡◌, ◌<◌};
 ghost use Rattle.house.specs.House.{under, byte_of, answer_with, filling};
 

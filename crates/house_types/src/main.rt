@@ -1,6 +1,8 @@
 // Prints the meets of the house types, as a table of 64 lines with 64 numbers each. This program knows the house types and text, and no record. A
 // table that cannot be written whole is told on standard error.
 
+#![tactic(auto)]
+
 ghost use Rattle.std.specs.Prelude.{◌≡◌, ◌<◌, ◌≤◌, length};
 ghost use Rattle.house.specs.House.{meets};
 ghost use Rattle.text.specs.Text.{Puts};

@@ -2,5 +2,7 @@
 // before, and `wanting` has found the wanted labels; `reasons` goes on from the kept links. This crate knows graphs in words, those marks
 // and those labels.
 
+#![tactic(auto)]
+
 pub mod keep;
 pub mod rows;

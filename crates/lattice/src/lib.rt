@@ -3,6 +3,8 @@
 // table, the labels of a table and their laws. Crate `acceptance` tests a table, and crate `bounds` opens one for meets or joins. This crate
 // knows a table's bytes, and nothing of records; it refuses no table.
 
+#![tactic(auto)]
+
 pub mod search;
 pub mod wanted;
 pub mod words;

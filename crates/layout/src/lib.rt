@@ -2,6 +2,8 @@
 // one word for each link. All crates that compute on graphs share this layout. The crate knows labels and words, and nothing of a
 // record's bytes.
 
+#![tactic(auto)]
+
 ghost use Rattle.std.specs.Prelude.{◌≡◌, ◌+◌, ◌/◌, ◌%◌, ◌≤◌, ◌<◌, max, min, length};
 ghost use Rattle.lattice.specs.Label.{is_full};
 ghost use Rattle.lattice.specs.Labels.{Known};
@@ -27,7 +29,7 @@ pub const LONGEST: usize = 1 + 256 + 255 * HEADER + 2048;
 pub const SHORT: usize = 768;
 
 // The label of a node: its type and its range of levels.
-#[derive(Drop)]
+#[derive(Clone, Copy)]
 pub struct Label {
     pub kind: u8,
     pub lowest: u8,

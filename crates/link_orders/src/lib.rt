@@ -3,6 +3,8 @@
 // a lesser rank come first, and links of one rank come in the order of their places. `calls` makes an order, and `groups` asks for its ranks.
 // This crate knows features and lists of them, and no graph in words.
 
+#![tactic(auto)]
+
 ghost use Rattle.std.specs.Prelude.{◌≡◌, ℕ, ◌<◌, true, length, get_or};
 ghost use Rattle.graphs.specs.Difference.{by_number, by_reading, place_in};
 ghost use Rattle.link_orders.specs.LinkOrders.{Fitting, Ranks, earlier_by, is_reading_order};
@@ -12,7 +14,7 @@ pub const FEATURES: usize = 64;
 
 // An order of links. If `listed`, links are ordered by the feature's place in `list`, then by parent number; else by parent number, then
 // by feature.
-#[derive(Drop)]
+#[derive(Clone, Copy)]
 pub struct LinkOrder {
     pub listed: bool,
     pub list: [u8; FEATURES],

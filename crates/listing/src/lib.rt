@@ -3,6 +3,8 @@
 // and raising the numbers gives the next record (`raising`). This crate knows an accepted table, records and the list of `listed`; it computes
 // on no graph.
 
+#![tactic(auto)]
+
 ghost use Rattle.std.specs.Prelude.{◌≡◌, ◌||◌, [], ℕ, ◌≤◌, ◌<◌, eqb, length, get_or};
 ghost use Rattle.encode.specs.Encode.{fitted};
 ghost use Rattle.replies.specs.Reply.{resulting, result_of};

@@ -8,7 +8,7 @@ ghost use Rattle.listing.specs.Numbers.{number_list, Nodes};
 
 // The number of nodes, and the type and the links of each of three nodes, by number; a node that is not there has 0 and 0. Links by number: 0,
 // none; 1, 2 and 3, by feature 0, by feature 1 and by both to one node; 4, of the root alone, feature 0 to node 1 and feature 1 to node 2.
-#[derive(Drop)]
+#[derive(Clone, Copy)]
 pub struct Numbers {
     pub nodes: usize,
     pub type0: usize,

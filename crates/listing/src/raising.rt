@@ -10,7 +10,7 @@ use crate::numbers::Numbers;
 use crate::spans::{is_within, last_span, middle_span, root_span, type_span};
 
 // Whether there is a next record, and its numbers.
-#[derive(Drop)]
+#[derive(Clone, Copy)]
 pub struct Raised {
     pub more: bool,
     pub numbers: Numbers,

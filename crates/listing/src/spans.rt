@@ -5,7 +5,7 @@ ghost use Rattle.listed.specs.Listing.{sets, type_span, root_span, middle_span, 
 ghost use Rattle.listing.specs.Numbers.{Ends};
 
 // The least and the greatest number that may stand at one place.
-#[derive(Drop)]
+#[derive(Clone, Copy)]
 pub struct Span {
     pub low: usize,
     pub high: usize,

@@ -1,6 +1,8 @@
 // Reads what is asked for from standard input, and prints the one line that answers it. This program knows `request` alone. A line that cannot be
 // written whole is told on standard error. A program of this language has no exit status of its own.
 
+#![tactic(auto)]
+
 use libc::{STDERR_FILENO, STDIN_FILENO, STDOUT_FILENO};
 
 fn main() {

@@ -2,6 +2,8 @@
 // graph of the classes. `classes` finds the classes, and `unify` puts the parts together. This crate knows graphs in words, their classes and
 // the meets that `bounds` holds; it writes no record.
 
+#![tactic(auto)]
+
 pub mod labels;
 pub mod operands;
 pub mod quotient;

@@ -2,6 +2,8 @@
 // the same order. This serves where the graph is computed on next and no record is asked for. The crate knows graphs in words; it writes
 // no bytes and knows no table.
 
+#![tactic(auto)]
+
 ghost use Rattle.std.specs.Prelude.{◌+◌, ◌*◌, ◌≤◌, eqb, length, take};
 ghost use Rattle.graphs.specs.Number.{canonical};
 ghost use Rattle.layout.specs.Layout.{Sound, graph_in, header, longest};

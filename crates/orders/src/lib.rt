@@ -2,6 +2,8 @@
 // broader, seen from the first. It serves `calls` and the crates that open a table themselves. This crate knows records, an accepted table and
 // the order; it opens no table and writes no record.
 
+#![tactic(auto)]
+
 ghost use Rattle.std.specs.Prelude.{◌≡◌, ℕ, ◌≤◌};
 ghost use Rattle.layout.specs.Layout.{rows_of};
 ghost use Rattle.decode.specs.Answers.{Roomy};

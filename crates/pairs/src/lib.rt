@@ -2,6 +2,8 @@
 // with a list of types for features (document 02, Paper 9) or without one. An empty list stands for no list. This crate knows records and an
 // accepted table, and no operation.
 
+#![tactic(auto)]
+
 ghost use Rattle.std.specs.Prelude.{◌≡◌, true, ◌≤◌, length};
 ghost use Rattle.decode.specs.Answers.{Roomy};
 ghost use Rattle.record.specs.Reads.{ReadsAs};
@@ -12,7 +14,7 @@ use record::reading::Verdict;
 use replies::Side;
 
 // Whether both records are accepted; else the first refusal, and which graph is refused.
-#[derive(Drop)]
+#[derive(Clone, Copy)]
 pub enum PairVerdict {
     Both,
     Refused(GraphFault, Side),

@@ -3,6 +3,8 @@
 // any. If nodes stay, the graph has a cycle. If none stays, the root reaches every node exactly where it is the only node that no link
 // entered at the start. The crate knows graphs in words, and of the table the number of types; it knows no record's bytes.
 
+#![tactic(auto)]
+
 ghost use Rattle.std.specs.Prelude.{◌+◌, ◌≤◌, ◌<◌, false, ◌≡◌, length};
 ghost use Rattle.layout.specs.Builder.{stated};
 ghost use Rattle.layout.specs.Layout.{Sound, row_end, size};
@@ -12,7 +14,7 @@ ghost use Rattle.peeling.specs.Counts.{Count, Counted, LevelsOrdered, Peels, Que
 use layout::Label;
 
 // What is found: a cycle; else a node other than the root that no link enters; else neither.
-#[derive(Drop)]
+#[derive(Clone, Copy)]
 pub enum Shape {
     Cyclic,
     Apart,

@@ -11,7 +11,7 @@ use replies::{Reply, Side};
 use rows::Row;
 
 // What export makes: the answer, how many rows are to be stored, and these rows. A refusal has none.
-#[derive(Drop)]
+#[derive(Clone, Copy)]
 pub struct Made {
     pub answer: Reply,
     pub count: usize,

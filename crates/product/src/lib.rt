@@ -2,6 +2,8 @@
 // (generalization). A queue has the pairs, each pair has a mark, and the links of a pair are those by features of both of its nodes. This crate
 // knows graphs in words. It knows no label and no type, and it writes no record.
 
+#![tactic(auto)]
+
 ghost use Rattle.std.specs.Prelude.{◌+◌, ◌≤◌, ◌<◌, length};
 ghost use Rattle.layout.specs.Layout.{Recorded, size};
 ghost use Rattle.product.specs.Queue.{Marked, Offered, Spreads, common};
@@ -31,7 +33,7 @@ fn enlist(marks: &mut [u8; 65025], queue: &mut [u16; 255], pair: usize, count: u
 }
 
 // Where the next word stands, and how many pairs have a number, or FULL where a pair got none.
-#[derive(Drop)]
+#[derive(Clone, Copy)]
 pub struct Spread {
     pub at: usize,
     pub count: usize,

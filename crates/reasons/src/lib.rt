@@ -2,6 +2,8 @@
 // before, and `difference` asks for the reasons. This crate knows graphs in words, the marks of links that `groups` makes, and which nodes
 // `keeping` keeps for the links that enter them.
 
+#![tactic(auto)]
+
 ghost use Rattle.std.specs.Prelude.{◌≡◌, List, ℕ, ◌<◌, length};
 ghost use Rattle.layout.specs.Layout.{longest, size};
 ghost use Rattle.keeping.specs.Keeping.{Markable};

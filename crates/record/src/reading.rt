@@ -8,7 +8,7 @@ ghost use Rattle.record.specs.Reads.{Reads, unranged_length};
 use crate::GraphFault;
 
 // What reading a record answers: it is accepted, or why it is refused.
-#[derive(Drop)]
+#[derive(Clone, Copy)]
 pub enum Verdict {
     Accepted,
     Refused(GraphFault),

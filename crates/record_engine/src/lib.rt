@@ -3,6 +3,8 @@
 // small graphs, four are on the bytes of a gathering, three on the bytes of a store, two take rows as a slice of structs, one checks a table, and
 // one gives the table of the house types. This crate knows the calls, the listing, the gathering, the store and the planning tables.
 
+#![tactic(auto)]
+
 ghost use Rattle.std.specs.Prelude.{◌≡◌, ◌<◌, ◌≤◌, take};
 ghost use Rattle.encode.specs.Encode.{yielding};
 ghost use Rattle.calls.specs.Calls.{checking, rewriting, ordering, generalizing, unifying, differing, differing_by};
@@ -309,7 +311,7 @@ fn import_coded(
 }
 
 // What export makes: the code of its answer, how many rows are to be stored, and these rows.
-#[derive(Drop)]
+#[derive(Clone, Copy)]
 pub struct Made {
     pub answer: u64,
     pub count: usize,

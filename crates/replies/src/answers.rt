@@ -10,7 +10,7 @@ use acceptance::TableFault;
 use record::GraphFault;
 
 // What a reply tells. A refusal has a number, and a refusal of a graph also tells which of the two graphs it is.
-#[derive(Drop)]
+#[derive(Clone, Copy)]
 pub enum Answer {
     Length(usize),
     Same,

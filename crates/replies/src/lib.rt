@@ -1,6 +1,8 @@
 // The replies of all calls of documents 01 and 02, with the number of each refusal, for every crate that makes a call. This crate knows the
 // faults of tables and graphs, and no call.
 
+#![tactic(auto)]
+
 ghost use Rattle.std.specs.Prelude.{◌≡◌};
 ghost use Rattle.replies.specs.Reply.{reply_of};
 
@@ -11,7 +13,7 @@ use record::GraphFault;
 pub mod answers;
 
 // Which of two graphs is refused. A lone graph counts as the first.
-#[derive(Drop)]
+#[derive(Clone, Copy)]
 pub enum Side {
     First,
     Second,
@@ -19,7 +21,7 @@ pub enum Side {
 
 // What a call answers: the record's length; one of the order's four answers, seen from the first graph; the counts of nodes and rows; the end of
 // a listing; or a refusal.
-#[derive(Drop)]
+#[derive(Clone, Copy)]
 pub enum Reply {
     Length(usize),
     Same,

@@ -1,5 +1,7 @@
 // Makes the line that `mapcalc` prints from the bytes of its input. This crate knows the calls and their replies, and reads and writes no file.
 
+#![tactic(auto)]
+
 pub mod parse;
 pub mod reply;
 
@@ -16,7 +18,7 @@ use parse::{Operation, Parsed, Parts};
 use replies::Reply;
 
 // What is printed: the first `count` of the bytes. The longest line has 9,717.
-#[derive(Drop)]
+#[derive(Clone, Copy)]
 pub struct Printed {
     pub bytes: [u8; 9717],
     pub count: usize,

@@ -5,7 +5,7 @@ ghost use Rattle.request.specs.Request.{asked_of, requested, take_record};
 ghost use Rattle.request.specs.Parse.{Inside, Parses, Takes, between};
 
 // What is asked for: the common part, the combination, the difference or the order.
-#[derive(Drop)]
+#[derive(Clone, Copy)]
 pub enum Operation {
     Generalize,
     Unify,
@@ -14,14 +14,14 @@ pub enum Operation {
 }
 
 // Where a part of the input starts and ends.
-#[derive(Drop)]
+#[derive(Clone, Copy)]
 pub struct Part {
     pub start: usize,
     pub end: usize,
 }
 
 // The number of types, and where the table and the records stand.
-#[derive(Drop)]
+#[derive(Clone, Copy)]
 pub struct Parts {
     pub n: usize,
     pub table: Part,
@@ -30,14 +30,14 @@ pub struct Parts {
 }
 
 // What the input asks for.
-#[derive(Drop)]
+#[derive(Clone, Copy)]
 pub enum Parsed {
     Bad,
     Asked(Operation, Parts),
 }
 
 // Where a record of the input stands, or that the input is bad.
-#[derive(Drop)]
+#[derive(Clone, Copy)]
 pub enum Located {
     Bad,
     At(Part),

@@ -1,6 +1,9 @@
 // This crate turns a planning table into a graph in words, and a graph in words into a planning table: rows, each a parent, a feature and
 // a target, beside three bytes for each node (document 02, Papers 2 and 7). The two functions of this file are the only loops over lent
 // rows; all other work is on an array of rows by value. The crate knows rows and words; it judges no graph and knows no table of types.
+
+#![tactic(auto)]
+
 ghost use Rattle.std.specs.Prelude.{◌≡◌, ◌≤◌, length, take, drop, ◌++◌};
 
 pub mod filling;
@@ -9,7 +12,7 @@ pub mod placing;
 
 // One link: the node that it leaves, its feature, and the node that it enters.
 #[repr(C)]
-#[derive(Drop)]
+#[derive(Clone, Copy)]
 pub struct Row {
     pub parent: u8,
     pub feature: u8,

@@ -2,6 +2,8 @@
 // from it. The caller lends the buffer; a refused call changes no byte of it. A buffer is trusted only where the way of its programs ends in its
 // first bytes. It knows tables, records and the operations on them.
 
+#![tactic(auto)]
+
 ghost use Rattle.std.specs.Prelude.{◌≡◌, length};
 ghost use Rattle.replies.specs.Reply.{Bounded, resulting};
 ghost use Rattle.versions.specs.State.{taken};

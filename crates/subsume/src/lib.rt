@@ -1,6 +1,8 @@
 // The order: whether the graph s lies below the graph g (document 01, "Order and results"). A queue goes through the nodes of g and maps each to
 // the node of s that the same path leads to. This crate knows graphs in words and the order of a type table.
 
+#![tactic(auto)]
+
 ghost use Rattle.std.specs.Prelude.{◌≡◌, ℕ, ◌≤◌, ◌<◌, length};
 ghost use Rattle.lattice.specs.Labels.{table_labels};
 ghost use Rattle.layout.specs.Builder.{stated};
@@ -11,14 +13,14 @@ ghost use Rattle.subsume.specs.Promise.{Orders};
 use layout::Label;
 
 // Whether the first graph is below the second.
-#[derive(Drop)]
+#[derive(Clone, Copy)]
 pub enum Order {
     Below,
     NotBelow,
 }
 
 // The answer, and beside `Below` the node of s that each node of g is mapped to.
-#[derive(Drop)]
+#[derive(Clone, Copy)]
 pub struct Ordered {
     pub order: Order,
     pub map: [u16; 255],

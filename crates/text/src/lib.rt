@@ -1,5 +1,7 @@
 // Numbers and words as text. Each function puts bytes into the output from `at` on and answers the next place. This crate knows bytes alone.
 
+#![tactic(auto)]
+
 ghost use Rattle.std.specs.Prelude.{◌≡◌, ◌+◌, ◌<◌, ◌≤◌, length};
 ghost use Rattle.text.specs.Text.{Puts, decimal, digit_of, hexadecimal};
 

@@ -3,6 +3,8 @@
 // of a class, and builds the graph of the classes. This crate knows graphs in words and the meets that `bounds` holds; `encode` writes the
 // result.
 
+#![tactic(auto)]
+
 ghost use Rattle.std.specs.Prelude.{◌≡◌, List, ℕ, ◌+◌, ◌≤◌, ◌<◌, length};
 ghost use Rattle.bounds.specs.Sets.{meet_in};
 ghost use Rattle.layout.specs.Layout.{Sound, size};
@@ -16,7 +18,7 @@ use layout::HEADER;
 use merging::{labels, operands, quotient};
 
 // The answer of a combination: what writing the result answers, or document 01's refusals 9 and 10.
-#[derive(Drop)]
+#[derive(Clone, Copy)]
 pub enum Combined {
     Written(Written),
     Cycle,

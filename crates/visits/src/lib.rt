@@ -2,5 +2,7 @@
 // The crate serves the graphs of records, and those of a combination, which have up to 510 nodes and 4,096 links. The crate knows graphs in
 // words alone.
 
+#![tactic(auto)]
+
 pub mod numbering;
 pub mod sorting;

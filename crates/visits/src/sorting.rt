@@ -7,7 +7,7 @@ ghost use Rattle.visits.specs.Colouring.{Entered, Leaves};
 ghost use Rattle.visits.specs.Walks.{Sorts};
 
 // How the walk leaves a node: with the number of finished nodes, or because a link leads back to a node on the way down.
-#[derive(Drop)]
+#[derive(Clone, Copy)]
 enum Leaving {
     Count(usize),
     Back,

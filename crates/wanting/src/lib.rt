@@ -2,6 +2,8 @@
 // the greatest label whose meet with the meet of all g labels over the node equals the node's label in s. The difference is refused where a
 // node has no wanted label. This crate knows graphs in words and an accepted table; it knows no reply and no record's bytes.
 
+#![tactic(auto)]
+
 ghost use Rattle.std.specs.Prelude.{◌≡◌, ℕ, ◌≤◌, ◌<◌, length, get_or};
 ghost use Rattle.lattice.specs.Labels.{wanted_level};
 ghost use Rattle.layout.specs.Builder.{stated};

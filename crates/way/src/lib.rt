@@ -2,6 +2,8 @@
 // programs where their way ends in its first bytes. This crate goes the way and opens a buffer, and knows tables, records, the operations on them
 // and the state of a store.
 
+#![tactic(auto)]
+
 ghost use Rattle.std.specs.Prelude.{◌≡◌, true, ℕ, ◌*◌, ◌≤◌, ◌<◌, length, drop, take};
 ghost use Rattle.bounds.specs.Opening.{OpenedFor};
 ghost use Rattle.replies.specs.declared.Reply.TheVariants.{Length};
