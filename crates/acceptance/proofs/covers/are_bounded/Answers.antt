@@ -1,0 +1,40 @@
+use Prim.Native.Nat.{◌-◌}
+use mathlib.Core.Path.{sym, subst}
+use native.Mathlib.Nat.{not-suc-le-zero}
+use borrow.Author.Tests.{not-true, not-false}
+use Rattle.lattice.specs.Words.{BoundsWithin}
+use borrow.Author.Rules.{rules}
+use Rattle.acceptance.proofs.Covering.{covered-inside, covers_more, covers-bounded}
+use Rattle.acceptance.proofs.covers.are_bounded.Goals as goal
+
+pub loop-i-init : goal.loop-i-init
+loop-i-init c = (search rules, λ z l. absurd (not-suc-le-zero l))
+
+pub covers_of-found-requires : goal.covers_of-found-requires
+covers_of-found-requires c =
+    let side = c.requires.1.sided in
+    (search rules, search rules, record { own = side.own; inside = side.inside })
+
+pub returns-then-not-are_bounded_within : goal.returns-then-not-are_bounded_within
+returns-then-not-are_bounded_within c =
+    let turn = c.loop-i in
+    let covers = c.covers_of-found.ensures.covers c.requires.1 in
+    let inside = covered-inside c.args.n c.args.down.now turn.i _ (search rules) c.requires.1.sided covers in
+    let told = c.are_bounded_within.ensures c.args.n c.requires.0 c.requires.1.sided inside in
+    sym (told.no-stands (not-true _ c.if-not-are_bounded_within.true))
+
+pub loop-i-preserved : goal.loop-i-preserved
+loop-i-preserved c =
+    let turn = c.loop-i in
+    let covers = c.covers_of-found.ensures.covers c.requires.1 in
+    let inside = covered-inside c.args.n c.args.down.now turn.i _ (search rules) c.requires.1.sided covers in
+    let told = c.are_bounded_within.ensures c.args.n c.requires.0 c.requires.1.sided inside in (
+      search rules,
+      covers_more c.args.n c.args.down.now turn.i _ turn.invariant.1 covers
+          (subst (BoundsWithin c.args.n c.args.down.now _) (not-false _ c.if-not-are_bounded_within.false) told),
+    )
+
+pub returns : goal.returns
+returns c =
+    let turn = c.loop-i in
+    covers-bounded c.args.n c.args.down.now c.requires.0 c.requires.1 turn.i (search rules) turn.invariant.0 turn.invariant.1

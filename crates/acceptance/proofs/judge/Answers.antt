@@ -1,0 +1,57 @@
+use Prim.Native.Nat.{◌-◌, ◌+◌}
+use mathlib.Core.Path.{sym, subst, ◌∙◌}
+use mathlib.Core.Bool.{Bool, false}
+use mathlib.Core.Logic.{⊎_elim}
+use native.Mathlib.Omega.{arith}
+use borrow.Author.Tests.{not-true, not-false}
+use Rattle.lattice.specs.Words.{CoversOf}
+use Rattle.lattice.proofs.Every.{refuted, held}
+use Rattle.acceptance.proofs.Acceptance.{answer-order, order-words, lower-words, answer-found}
+use Rattle.acceptance.proofs.Spanning.{Judging, judge-begin, judge-next, judge-kept, judge-end, rows-owned, rows-hold, rows-fail, rows-unset}
+use borrow.Author.Rules.{rules}
+use Rattle.acceptance.proofs.judge.Goals as goal
+
+pub returns-then-not-are_rows_set : goal.returns-then-not-are_rows_set
+returns-then-not-are_rows_set c =
+    answer-order c.args.n t c.args.down.now size words
+    (rows-unset c.args.n c.args.down.now (refuted c.are_rows_set.ensures c.if-not-are_rows_set.true))
+
+pub loop-i-init : goal.loop-i-init
+loop-i-init c = (search rules, judge-begin _ _)
+
+pub covers_of-found-requires : goal.covers_of-found-requires
+covers_of-found-requires c = (search rules, search rules, rows-owned _ _ (held c.are_rows_set.ensures c.if-not-are_rows_set.false))
+
+pub returns-then-not-found : goal.returns-then-not-found
+returns-then-not-found c =
+    let turn = c.loop-i in
+    answer-order c.args.n t c.args.down.now size words
+    (rows-fail c.args.n c.args.down.now turn.i (search rules)
+    (c.covers_of-found.ensures.no-stands (not-true _ c.if-not-found.true)))
+
+pub loop-i-preserved : goal.loop-i-preserved
+loop-i-preserved c =
+    let turn = c.loop-i in
+    let n = c.args.n in
+    let ws = c.args.down.now in
+    let found = c.covers_of-found in
+    let ordered = subst (λ (b : Bool). CoversOf n ws turn.i b found.result.word) (not-false _ c.if-not-found.false) found.ensures in
+    let next = Judging n ws (turn.i + 1) in (
+      search rules,
+      ⊎_elim
+          (λ (test, call, new).
+          subst next (sym new) (judge-next n ws turn.invariant.1 ordered (search rules) c.requires test.taken (call.ensures n c.requires)))
+          (λ (test, new). subst next (sym new) (judge-kept n ws turn.invariant.1 ordered test.left))
+          c.if-all.branch,
+    )
+
+pub returns : goal.returns
+returns c =
+    let turn = c.loop-i in
+    let n = c.args.n in
+    let ws = c.args.down.now in
+    let set = held c.are_rows_set.ensures c.if-not-are_rows_set.false in
+    let passed = order-words size words (rows-hold n ws set (λ k l. turn.invariant.1.spans k (omega arith))) in
+    c.bounded.ensures ∙
+    answer-found n t ws passed false ws words _
+    (sym (judge-end n ws c.requires (search rules) turn.invariant.0 turn.invariant.1 (lower-words n t ws passed)))

@@ -1,0 +1,48 @@
+use Prim.Native.Nat.{◌+◌, ◌-◌}
+use mathlib.Core.Bool.{true, false}
+use mathlib.Core.Logic.{⊎_elim}
+use mathlib.Core.Path.{refl, sym, ◌∙◌}
+use native.Mathlib.Omega.{arith}
+use borrow.Author.Tests.{le-ltb, lt-ltb}
+use Rattle.lattice.proofs.Every.{every-fails, all-kept, every-end}
+use Rattle.lattice.proofs.Rows.{holder-found}
+use Rattle.bounds.proofs.Columns.{filling-begins, filling-more, filling-ends, none-tested, is-tested}
+use borrow.Author.Rules.{rules}
+use Rattle.bounds.proofs.cells.bound_row.Goals as goal
+
+pub loop-b-init : goal.loop-b-init
+loop-b-init c = (
+  search rules,
+  search rules,
+  filling-begins c.args.n c.args.words.now c.args.rows.now c.args.a c.requires.0 c.requires.3,
+  none-tested c.args.a _,
+)
+
+pub loop-b-preserved : goal.loop-b-preserved
+loop-b-preserved c =
+    let turn = c.loop-b in
+    let n = c.args.n in
+    let ws = c.args.words.now in
+    let a = c.args.a in
+    let answer = c.bound-c.ensures n c.requires.1 c.requires.2 c.requires.0 (search rules) in
+    let told = holder-found n ws _ _ _ c.requires.1 refl answer in (
+      search rules,
+      search rules,
+      filling-more n ws turn.rows a turn.b _ c.requires.1 turn.invariant.0 (search rules) answer turn.invariant.2,
+      ⊎_elim
+          (λ w.
+          w.1 ∙
+          sym (every-fails _ (turn.b + 1) turn.b (omega arith)
+          (is-tested a turn.b _ false turn.invariant.0 (sym told ∙ le-ltb _ _ w.0.taken))))
+          (λ w. w.1 ∙ all-kept _ turn.b _ turn.invariant.3 (is-tested a turn.b _ true turn.invariant.0 (sym told ∙ lt-ltb _ _ w.0.left)))
+          c.if-c-ge64.branch,
+    )
+
+pub returns : goal.returns
+returns c =
+    let turn = c.loop-b in
+    let n = c.args.n in
+    let done =
+    filling-ends n c.args.words.now turn.rows c.args.a turn.b c.requires.1 c.requires.0 (search rules)
+    (search rules) turn.invariant.2 in
+    (every-end _ turn.b n _ (search rules) (search rules) turn.invariant.3, done)

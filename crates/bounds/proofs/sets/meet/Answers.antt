@@ -1,0 +1,24 @@
+-- `meet` meets its contract: the answer is the cell, or the type whose set is the overlap.
+use Rattle.bounds.proofs.Held.{row_inside_lem, meet-in-cells, meet_left, meet_right, meet-sought}
+use Rattle.bounds.proofs.sets.meet.Goals as goal
+
+-- LEFT bounds-1-result
+-- index-1-result c =
+--     let start = c.before.before in
+--     row_inside_lem start.args.n start.args.sets.now start.args.cells.now start.args.a start.args.b c.if1.true start.requires.1.1 start.requires.0.0 start.requires.0.2
+
+pub returns-then-sets-n-eq0 : goal.returns-then-sets-n-eq0
+returns-then-sets-n-eq0 c =
+    meet-in-cells c.args.n c.args.sets.now c.args.cells.now c.args.a c.args.b c.if-sets-n-eq0.true
+
+pub returns-then-set-sets : goal.returns-then-set-sets
+returns-then-set-sets c =
+    meet_left c.args.n c.args.sets.now c.args.cells.now c.args.a c.args.b c.if-sets-n-eq0.false c.requires.0.0 c.requires.0.1 c.requires.1.0 c.if-set-sets.true
+
+pub returns-then-set-sets-2 : goal.returns-then-set-sets-2
+returns-then-set-sets-2 c =
+    meet_right c.args.n c.args.sets.now c.args.cells.now c.args.a c.args.b c.if-sets-n-eq0.false c.requires.0.0 c.requires.0.1 c.requires.1.0 c.if-set-sets-2.true
+
+pub returns : goal.returns
+returns c =
+    meet-sought c.args.n c.args.sets.now c.args.cells.now c.args.a c.args.b c.if-sets-n-eq0.false c.requires.0.0 c.requires.0.1 c.requires.1.0 _ c.requires.0.2 c.find_set.ensures

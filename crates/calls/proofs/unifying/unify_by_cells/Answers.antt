@@ -1,0 +1,47 @@
+-- `unify_by_cells` meets its contract: the cells are filled and the list is tested; then the combination is written.
+use mathlib.Core.Path.{refl, sym, ◌∙◌}
+use mathlib.Core.Bool.{false}
+use mathlib.Core.Logic.{⊎_elim, inl, inr}
+use borrow.Author.Tests.{not-true, not-false}
+use Rattle.acceptance.proofs.Acceptance.{opened-accepted}
+use Rattle.bounds.proofs.Opening.{opened-cells}
+use Rattle.record.specs.Appropriate.{list_accepted}
+use Rattle.engine.specs.Unifying.{unified_beside}
+use Rattle.calls.proofs.Listed.{table-before-list, list-refused, list-passed}
+use Rattle.calls.proofs.Beside.{beside-checked, optional-passed, test-passed, test-failed}
+use Rattle.calls.proofs.unifying.unify_by_cells.Goals as goal
+
+pub fill-opened-requires : goal.fill-opened-requires
+fill-opened-requires c = let needed = c.requires.0 in (needed.size, needed.order)
+
+pub returns-then-not-is_list_accepted : goal.returns-then-not-is_list_accepted
+returns-then-not-is_list_accepted c =
+    let a = c.args in
+    list-refused (beside-checked a.n a.table.now a.listed a.list.now a.out.now (unified_beside a.n a.table.now a.list.now a.first.now a.second.now a.out.now))
+    (sym c.fill-opened.ensures.answers ∙ c.in-Accepted.is)
+    (test-failed a.listed (list_accepted a.n a.list.now) c.if-listed.true (sym c.is_list_accepted.ensures ∙ not-true c.is_list_accepted.result c.if-not-is_list_accepted.true))
+
+pub slice_bounds-of_records-end : goal.slice_bounds-of_records-end
+slice_bounds-of_records-end c = sym c.fill-opened.ensures.long
+
+pub of_records-requires : goal.of_records-requires
+of_records-requires c =
+    let a = c.args in
+    let ok = opened-accepted a.n a.table.now _ c.fill-opened.ensures.answers c.in-Accepted.is in (
+      opened-cells false a.n a.table.now _ c.requires.0 ok _ _ refl (c.fill-opened.ensures.filled-cells ok),
+      optional-passed a.n a.listed a.list.now c.requires.1 (test-passed a.listed (list_accepted a.n a.list.now) (⊎_elim (λ x. inl (x.0.taken, sym x.1.ensures ∙ not-false x.1.result x.2.left)) (λ x. inr x.left) c.else-listed.branch)),
+    )
+
+pub returns-in-Refused : goal.returns-in-Refused
+returns-in-Refused c =
+    let a = c.args in
+    table-before-list (beside-checked a.n a.table.now a.listed a.list.now a.out.now (unified_beside a.n a.table.now a.list.now a.first.now a.second.now a.out.now)) _
+    (sym c.fill-opened.ensures.answers ∙ c.in-Refused.is)
+
+pub returns-else-listed : goal.returns-else-listed
+returns-else-listed c =
+    let a = c.args in
+    c.of_records.ensures ∙
+    list-passed (beside-checked a.n a.table.now a.listed a.list.now a.out.now (unified_beside a.n a.table.now a.list.now a.first.now a.second.now a.out.now))
+    (sym c.fill-opened.ensures.answers ∙ c.in-Accepted.is)
+    (test-passed a.listed (list_accepted a.n a.list.now) (⊎_elim (λ x. inl (x.0.taken, sym x.1.ensures ∙ not-false x.1.result x.2.left)) (λ x. inr x.left) c.else-listed.branch))

@@ -1,0 +1,13 @@
+-- `unifying::of_graphs` meets its contract: the meets that are held are the meets of the table.
+use Rattle.engine.proofs.Combinations.{ready-to-combine, unified-as}
+use Rattle.engine.proofs.unifying.of_graphs.Goals as goal
+
+pub unify-requires : goal.unify-requires
+unify-requires c =
+    let ((t, held), (one, other)) = c.requires in
+    ready-to-combine held one other
+
+pub returns : goal.returns
+returns c = λ t held.
+    let (one, other) = c.requires.1 in
+    unified-as held c.args.out.now one other c.unify.ensures c.combined_reply.ensures

@@ -1,0 +1,32 @@
+use Prim.Native.Nat.{◌-◌, ◌*◌}
+use mathlib.Core.Path.{sym}
+use native.Mathlib.Omega.{arith}
+use Rattle.lattice.proofs.WordLaws.{word_none, word-done}
+use Rattle.lattice.proofs.Bits.{next-byte, byte_fits}
+use borrow.Author.Rules.{rules}
+use Rattle.lattice.proofs.words.read_cut.Goals as goal
+
+pub loop-k-init : goal.loop-k-init
+loop-k-init c = (search rules, sym (word_none _))
+
+pub overflow_add-word : goal.overflow_add-word
+overflow_add-word c =
+    let turn = c.loop-k in
+    record {
+      fits = byte_fits c.args.table.now c.args.i turn.k _ _ (search rules) turn.invariant.1 c.byte_at-byte.ensures.0
+          c.byte_at-byte.ensures.1;
+    }
+
+pub loop-k-preserved : goal.loop-k-preserved
+loop-k-preserved c =
+    let turn = c.loop-k in
+    (
+      search rules,
+      next-byte c.args.table.now c.args.i turn.k _ _ (search rules) turn.invariant.1 c.byte_at-byte.ensures.0
+          c.byte_at-byte.ensures.1,
+    )
+
+pub returns : goal.returns
+returns c =
+    let turn = c.loop-k in
+    word-done _ (8 * turn.k) 64 _ (omega (arith, turn.invariant.0)) (omega arith) turn.invariant.1

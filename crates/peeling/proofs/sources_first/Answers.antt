@@ -1,0 +1,47 @@
+use mathlib.Core.Logic.{⊎_elim}
+use Prim.Native.Nat.{◌-◌}
+use native.Mathlib.Omega.{arith}
+use Rattle.layout.proofs.Places.{sized}
+use Rattle.peeling.proofs.Passes.{peeling-start, peeling-few, next-inside, peeling-row, peeling-next, peels-cyclic, peels-rooted, peels-apart}
+use borrow.Author.Rules.{rules}
+use borrow.Author.Tests.{eqb-true, eqb-false}
+use Rattle.peeling.proofs.sources_first.Goals as goal
+
+pub bounds-graph-0 : goal.bounds-graph-0
+bounds-graph-0 c = sized c.requires.0
+
+pub find_sources-sources-requires : goal.find_sources-sources-requires
+find_sources-sources-requires c = (c.requires.1.small, (c.requires.1.long, search rules))
+
+pub loop-next-init : goal.loop-next-init
+loop-next-init c = peeling-start c.requires.0 c.requires.1 c.find_sources-sources.ensures
+
+pub offset_bounds-queue-next : goal.offset_bounds-queue-next
+offset_bounds-queue-next c = omega (arith, peeling-few c.loop-next.invariant, c.loop-next.invariant.small)
+
+pub bounds-queue-next : goal.bounds-queue-next
+bounds-queue-next c = omega (arith, peeling-few c.loop-next.invariant, c.loop-next.invariant.small)
+
+pub overflow_cast-v : goal.overflow_cast-v
+overflow_cast-v c = omega (arith, next-inside c.loop-next.invariant c.loop-next-test.true, c.loop-next.invariant.small)
+
+pub take_links-count-requires : goal.take_links-count-requires
+take_links-count-requires c = peeling-row c.loop-next.invariant c.loop-next-test.true
+
+pub loop-next-smaller : goal.loop-next-smaller
+loop-next-smaller c = omega (arith, peeling-few c.loop-next.invariant, c.loop-next-test.true)
+
+pub loop-next-preserved : goal.loop-next-preserved
+loop-next-preserved c = peeling-next c.loop-next.invariant c.loop-next-test.true c.take_links-count.ensures
+
+pub returns-then-count-nodes : goal.returns-then-count-nodes
+returns-then-count-nodes c = peels-cyclic c.loop-next.invariant c.loop-next-test.false c.if-count-nodes.true
+
+pub returns-then-queue-eq0 : goal.returns-then-queue-eq0
+returns-then-queue-eq0 c =
+    peels-rooted c.loop-next.invariant c.loop-next-test.false c.if-count-nodes.false c.if-sources-eq1.true (eqb-true _ _ c.if-queue-eq0.true)
+
+pub returns : goal.returns
+returns c =
+    peels-apart c.loop-next.invariant c.loop-next-test.false c.if-count-nodes.false
+    (λ single root. ⊎_elim (λ w. eqb-false _ _ w.1.left root) (λ w. w.left single) c.else-sources-eq1.branch)

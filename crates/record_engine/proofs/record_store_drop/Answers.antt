@@ -1,0 +1,6 @@
+-- The exported call answers the code of what the engine replies, and leaves the store as the engine leaves it.
+use Rattle.record_engine.proofs.Codes.{codes}
+use Rattle.record_engine.proofs.record_store_drop.Goals as goal
+
+pub returns : goal.returns
+returns c = codes c.code.ensures c.drop.ensures

@@ -1,0 +1,6 @@
+-- The exported call answers the code of what the engine replies, and leaves the output that the engine leaves.
+use Rattle.record_engine.proofs.Codes.{codes}
+use Rattle.record_engine.proofs.record_unify_appropriate.Goals as goal
+
+pub returns : goal.returns
+returns c = codes c.code.ensures c.unify_appropriate.ensures

@@ -1,0 +1,28 @@
+-- `put_answer` meets its contract: the call is that of the request.
+use mathlib.Core.Path.{◌≡◌, sym, ◌∙◌, ap}
+use native.Mathlib.Omega.{arith}
+use Prim.Native.Nat.{ℕ}
+use lib.ListN.{length, replicate, length-replicate}
+use Rattle.replies.specs.Reply.{Result}
+use Rattle.request.proofs.Bounds.{answering-bounded}
+use Rattle.request.proofs.Replies.{answered-is, puts-result}
+use borrow.Author.Rules.{rules}
+use Rattle.request.proofs.put_answer.Goals as goal
+
+pub put_reply-requires : goal.put_reply-requires
+put_reply-requires c =
+    let s = c.args in
+    let size : length c.answer-reply.new.1.1.1.1.1.0 ≡ 4854 = omega arith in (
+      λ l e.
+          let fits = answering-bounded s.parts.n _ _ _ s.operation (replicate 4854 0) l (sym (ap (λ (x : Result). x.reply) c.answer-reply.ensures) ∙ e) in
+          omega (arith, size, fits, length-replicate {A = ℕ} 4854 0),
+      (omega arith, search rules),
+    )
+
+pub returns : goal.returns
+returns c =
+    let s = c.args in
+    puts-result
+    (answered-is s.input.now s.operation s.parts c.bytes_of-table.ensures c.bytes_of-first.ensures
+    c.bytes_of-second.ensures)
+    c.answer-reply.ensures c.put_reply.ensures

@@ -1,0 +1,21 @@
+use mathlib.Core.Path.{refl, sym, ◌∙◌}
+use borrow.Author.Tests.{not-true, not-false}
+use Prim.Native.Nat.{◌-◌}
+use borrow.Author.Rules.{rules}
+use Rattle.rows.proofs.Known.{stop, next, end}
+use Rattle.rows.proofs.placing.all_known.Reads as reads
+use Rattle.rows.proofs.placing.all_known.Lts as lts
+use Rattle.rows.proofs.placing.is_known.Reads as is-known-reads
+use Rattle.rows.proofs.placing.all_known.Goals as goal
+
+pub loop-i-init : goal.loop-i-init
+loop-i-init c = (search rules, refl)
+
+pub returns-then-not-is_known : goal.returns-then-not-is_known
+returns-then-not-is_known c = stop c.args.nodes c.args.count c.args.t1 (search rules) c.loop-i.i (search rules) (search rules) (sym c.is_known.ensures ∙ not-true c.is_known.result c.if-not-is_known.true)
+
+pub loop-i-preserved : goal.loop-i-preserved
+loop-i-preserved c = (search rules, next c.args.nodes c.args.count c.args.t1 (search rules) c.loop-i.i (search rules) (search rules) (sym c.is_known.ensures ∙ not-false c.is_known.result c.if-not-is_known.false))
+
+pub returns : goal.returns
+returns c = end c.args.nodes c.args.count c.args.t1 (search rules) c.loop-i.i (search rules) (search rules)

@@ -1,0 +1,10 @@
+-- `merge_middle` meets its contract: the arrays have room for two graphs of middle size.
+use mathlib.Core.Logic.{inl}
+use Prim.Native.Nat.{ℕ}
+use native.Mathlib.Omega.{arith}
+use lib.ListN.{length-replicate}
+use Rattle.merging.proofs.Sizes.{spacious}
+use Rattle.unify.proofs.merge_middle.Goals as goal
+
+pub merge_within-requires : goal.merge_within-requires
+merge_within-requires c = let p = c.requires in (p.0, (p.1.0, (p.1.1.0, (p.1.1.1.0, (spacious p.1.1.0.recorded p.1.1.1.0.recorded {nodes = 80} {links = 240} {width = 64} p.1.1.1.1.1.0 p.1.1.1.1.1.1 (inl (omega arith)) (omega (arith, length-replicate {A = ℕ} 5456 0)) (omega (arith, length-replicate {A = ℕ} 241 0)), p.1.1.1.1.0)))))

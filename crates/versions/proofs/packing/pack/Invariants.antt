@@ -1,0 +1,17 @@
+-- `packing::pack` meets its contract: the map and the common part are put, then each version in turn.
+use Prim.Native.Nat.{◌-◌}
+use lib.ListN.{length}
+use Rattle.versions.proofs.Packs.{Packing}
+use Rattle.versions.proofs.packing.pack.Reads as reads
+use Rattle.versions.proofs.packing.pack.Lts as lts
+use Rattle.gathering.proofs.parts.put_length.Reads as put-length-reads
+use Rattle.versions.proofs.packing.pack_version.Reads as pack-version-reads
+use Rattle.versions.proofs.slots.map_of.Reads as map-of-reads
+use Rattle.versions.proofs.slots.put_measured.Reads as put-measured-reads
+use Rattle.versions.proofs.packing.pack.Given as goal
+
+abbrev pub invariant-loop-version : goal.invariant-loop-version
+invariant-loop-version l = Packing l.n l.table l.slots l.part l.count (length l.initial.state) l.state l.at l.version
+
+abbrev pub decreases-loop-version : goal.decreases-loop-version
+decreases-loop-version l = l.count - l.version

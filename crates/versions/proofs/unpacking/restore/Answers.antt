@@ -1,0 +1,43 @@
+-- `restore` meets its contract.
+use mathlib.Core.Path.{refl, sym}
+use native.Mathlib.Omega.{arith}
+use Rattle.pairs.proofs.Readings.{optional-none}
+use Rattle.versions.proofs.Restoring.{not-restored, is-restored, restored-most, restored-inside, restored-length}
+use Rattle.gathering.proofs.Told.{not-length}
+use Rattle.versions.proofs.unpacking.restore.Goals as goal
+
+pub of_records-reply-requires : goal.of_records-reply-requires
+of_records-reply-requires c = (c.requires.0, optional-none c.args.n _ refl)
+
+pub returns-in_default : goal.returns-in_default
+returns-in_default c =
+    let a = c.args in
+    not-restored a.n a.table.now _ a.difference.now a.part.now c.requires.0.ok refl c.of_records-reply.ensures c.requires.1
+    (not-length _ c.in_default.keys2)
+
+pub slice_bounds-record-end : goal.slice_bounds-record-end
+slice_bounds-record-end c =
+    let a = c.args in
+    restored-inside a.n a.table.now _ a.difference.now a.part.now c.requires.0.ok refl c.of_records-reply.ensures _ c.in-Length.is
+
+pub slice_bounds-put_measured-end : goal.slice_bounds-put_measured-end
+slice_bounds-put_measured-end c =
+    let a = c.args in
+    sym (restored-length a.n a.table.now _ a.difference.now a.part.now c.requires.0.ok refl c.of_records-reply.ensures _ c.in-Length.is)
+
+pub put_measured-requires : goal.put_measured-requires
+put_measured-requires c =
+    let a = c.args in (
+      omega (
+        arith,
+        restored-length a.n a.table.now _ a.difference.now a.part.now c.requires.0.ok refl c.of_records-reply.ensures _ c.in-Length.is,
+        restored-most a.n a.table.now _ a.difference.now a.part.now c.requires.0.ok refl c.of_records-reply.ensures _ c.in-Length.is,
+      ),
+      omega (arith, c.requires.2),
+    )
+
+pub returns : goal.returns
+returns c =
+    let a = c.args in
+    is-restored a.n a.table.now _ a.difference.now a.part.now c.requires.0.ok refl c.of_records-reply.ensures c.requires.1
+    c.requires.2 _ c.in-Length.is c.put_measured.ensures

@@ -1,0 +1,50 @@
+use mathlib.Core.Logic.{⊎_elim}
+use native.Mathlib.Omega.{arith}
+use Prim.Native.Nat.{◌-◌}
+use borrow.Author.Tests.{not-true, not-false}
+use Rattle.versions.proofs.Unpacked.{restored-start, restored-all, restored-absent, restored-short, restored-refused, restored-present, restored_same}
+use Rattle.versions.proofs.unpacking.restore_all.Goals as goal
+
+pub loop-version-init : goal.loop-version-init
+loop-version-init c =
+    let a = c.args in
+    restored-start a.n a.table.now a.part.now a.bits a.differences.now a.slots.now c.requires.1
+
+pub end_at-end-requires : goal.end_at-end-requires
+end_at-end-requires c = c.loop-version.invariant.inside
+
+pub returns-then-end-eq0 : goal.returns-then-end-eq0
+returns-then-end-eq0 c = (c.loop-version.invariant.absent.slotted, restored-short c.loop-version.invariant c.loop-version-test.true c.if-left-eq1.true c.end_at-end.ensures c.if-end-eq0.true)
+
+pub overflow_add-at : goal.overflow_add-at
+overflow_add-at c = omega (arith, c.end_at-end.ensures.whole c.if-end-eq0.false)
+
+pub slice_bounds-restore-count : goal.slice_bounds-restore-count
+slice_bounds-restore-count c = omega (arith, c.end_at-end.ensures.whole c.if-end-eq0.false)
+
+pub slice_bounds-restore-start : goal.slice_bounds-restore-start
+slice_bounds-restore-start c = omega (arith, c.end_at-end.ensures.whole c.if-end-eq0.false)
+
+pub slice_bounds-restore-end : goal.slice_bounds-restore-end
+slice_bounds-restore-end c = omega (arith, c.end_at-end.ensures.whole c.if-end-eq0.false)
+
+pub restore-requires : goal.restore-requires
+restore-requires c = (c.requires.0, c.loop-version.invariant.absent, c.loop-version-test.true)
+
+pub returns-then-not-restore : goal.returns-then-not-restore
+returns-then-not-restore c = (c.restore.ensures.slotted, restored-refused c.loop-version.invariant c.loop-version-test.true c.if-left-eq1.true c.end_at-end.ensures c.if-end-eq0.false c.restore.ensures (not-true c.restore.result c.if-not-restore.true))
+
+pub loop-version-smaller : goal.loop-version-smaller
+loop-version-smaller c = omega (arith, c.loop-version-test.true)
+
+pub loop-version-preserved : goal.loop-version-preserved
+loop-version-preserved c =
+    let so = c.loop-version.invariant in
+    let inside = c.loop-version-test.true in
+    ⊎_elim
+    (λ x. restored_same (restored-present so inside x.0.taken x.1.ensures x.2.left x.5.ensures (not-false x.5.result x.8.left)) x.9 x.10)
+    (λ x. restored_same (restored-absent so inside x.0.left) x.1 x.2)
+    c.if-left-eq1.branch
+
+pub returns : goal.returns
+returns c = (c.loop-version.invariant.absent.slotted, restored-all c.loop-version.invariant c.loop-version-test.false)

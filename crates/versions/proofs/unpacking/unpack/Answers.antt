@@ -1,0 +1,45 @@
+-- `unpack` meets its contract.
+use mathlib.Core.Path.{refl, sym, ◌∙◌}
+use native.Mathlib.Omega.{arith}
+use Rattle.versions.proofs.Unpacked.{unpacks-none, unpacks-short, unpacks-all, not-refused}
+use Rattle.versions.proofs.unpacking.unpack.Goals as goal
+
+pub returns-then-bits-eq0 : goal.returns-then-bits-eq0
+returns-then-bits-eq0 c =
+    let a = c.args in
+    unpacks-none a.n a.table.now a.buffer.now c.requires.1 c.length_at-bits.ensures c.requires.2 c.if-bits-eq0.true
+
+pub returns-then-end-eq0 : goal.returns-then-end-eq0
+returns-then-end-eq0 c =
+    let a = c.args in
+    unpacks-short a.n a.table.now a.buffer.now c.requires.1 c.length_at-bits.ensures c.if-bits-eq0.false c.end_at-end.ensures c.requires.2 c.if-end-eq0.true
+
+pub slice_bounds-restore_all-end : goal.slice_bounds-restore_all-end
+slice_bounds-restore_all-end c = sym c.open-opened.ensures.long
+
+pub slice_bounds-restore_all-count : goal.slice_bounds-restore_all-count
+slice_bounds-restore_all-count c = omega (arith, c.end_at-end.ensures.whole c.if-end-eq0.false)
+
+pub slice_bounds-restore_all-start : goal.slice_bounds-restore_all-start
+slice_bounds-restore_all-start c = omega (arith, c.end_at-end.ensures.whole c.if-end-eq0.false)
+
+pub slice_bounds-restore_all-end : goal.slice_bounds-restore_all-end
+slice_bounds-restore_all-end c = omega (arith, c.end_at-end.ensures.whole c.if-end-eq0.false)
+
+pub slice_bounds-restore_all-count-in-Accepted : goal.slice_bounds-restore_all-count-in-Accepted
+slice_bounds-restore_all-count-in-Accepted c = omega (arith, c.end_at-end.ensures.whole c.if-end-eq0.false)
+
+-- LEFT slice-bounds-restore-all-start-2
+-- part-restore-all-start-2 c = omega (arith, c.before.before.before.before.before.before.before.before.before.end-at.ensures.whole c.before.before.before.before.before.before.before.before.if2.false)
+
+pub restore_all-requires : goal.restore_all-requires
+restore_all-requires c = (record { ok = c.requires.0; lent = _; long = λ d. refl; holding = c.open-opened.ensures.holds c.requires.0 }, c.requires.2)
+
+pub returns-in-Refused : goal.returns-in-Refused
+returns-in-Refused c =
+    not-refused c.args.n c.args.table.now c.requires.0 (sym c.open-opened.ensures.answers ∙ c.in-Refused.is)
+
+pub returns-in-Accepted : goal.returns-in-Accepted
+returns-in-Accepted c =
+    let a = c.args in
+    unpacks-all a.n a.table.now a.buffer.now c.requires.1 c.length_at-bits.ensures c.if-bits-eq0.false c.end_at-end.ensures c.if-end-eq0.false c.restore_all.ensures.0 c.restore_all.ensures.1

@@ -1,0 +1,27 @@
+-- `numbering::number` meets its contract: once no node has a number, the visit of the root finds what its contract says.
+use native.Mathlib.Omega.{arith}
+use Rattle.layout.proofs.Places.{sized}
+use Rattle.visits.proofs.Visiting.{numbered, unmarked}
+use Rattle.visits.proofs.numbering.number.Goals as goal
+
+pub bounds-graph-0 : goal.bounds-graph-0
+bounds-graph-0 c = sized c.requires.0
+
+pub visit-requires : goal.visit-requires
+visit-requires c =
+    let cleared = c.clear in
+    record {
+      sound = c.requires.0;
+      marks = unmarked c.args.graph.now cleared.new.1.0 c.args.visited.now cleared.ensures.0 c.requires.1.1 cleared.ensures.1;
+      inside = c.requires.0.shaped.nonempty;
+      fresh = cleared.ensures.1 0 c.requires.0.shaped.nonempty;
+      room = omega arith;
+    }
+
+pub returns : goal.returns
+returns c =
+    let found = c.visit.ensures in (
+      numbered c.args.graph.now c.visit.new.1.0
+          c.visit.new.1.1.0 c.args.visited.now found,
+      (found.numbers-long, found.visited-long),
+    )

@@ -1,0 +1,25 @@
+use mathlib.Core.Path.{refl}
+use mathlib.Core.Logic.{⊎_elim}
+use Prim.Native.Nat.{◌-◌}
+use native.Mathlib.Omega.{arith}
+use Rattle.layout.proofs.Places.{sized}
+use Rattle.visits.proofs.Colouring.{sweeping-start, sweeping-entered, sweeping-over, sweeping-down, sweeping-sorts, looped-sorts}
+use Rattle.visits.proofs.sorting.sort_targets_first.Goals as goal
+
+pub bounds-graph-0 : goal.bounds-graph-0
+bounds-graph-0 c = sized c.requires.0
+
+pub loop-v-init : goal.loop-v-init
+loop-v-init c = sweeping-start c.requires.0 _ _ refl c.requires.1
+
+pub finish-requires : goal.finish-requires
+finish-requires c = sweeping-entered c.loop-v.invariant (omega arith) c.if-colour-v-eq0.true
+
+pub returns-in-Back : goal.returns-in-Back
+returns-in-Back c = (looped-sorts (c.finish.ensures.looped c.in-Back.is), c.finish.ensures.roomy)
+
+pub loop-v-preserved : goal.loop-v-preserved
+loop-v-preserved c = ⊎_elim (λ w. rw (w.7, w.8, w.9) (sweeping-down c.loop-v.invariant (omega arith) (w.3.ensures.counted _ w.5.given.1) (w.3.ensures.finished _ w.5.given.1))) (λ w. rw (w.1, w.2, w.3) (sweeping-over c.loop-v.invariant (omega arith) w.0.left)) c.if-colour-v-eq0.branch
+
+pub returns : goal.returns
+returns c = (sweeping-sorts c.loop-v.invariant c.loop-v-test.false, c.loop-v.invariant.placed.roomy)
