@@ -180,6 +180,7 @@ module _ {A : Type 0} (same : A → A → Bool) (tells : TellsApart same) where
 
   pub member-complete : (v : A) (vs : List A) → Memᴰ v vs → member same v vs ≡ true
   unfolding member
+  member-complete v [] x' = elim x' [ ]
   member-complete v (w ∷ ws) (Memᴰ.head e) = ap (λ (t : Bool). t || member same v ws) ((tells v w).1 e)
   member-complete v (w ∷ ws) (Memᴰ.tail m) = go (same v w) (member-complete v ws m)
     where
@@ -220,6 +221,7 @@ module _ {A : Type 0} (same : A → A → Bool) (tells : TellsApart same) where
   -- what is listed has a place before the end
   pub index-within : (v : A) (vs : List A) → Memᴰ v vs → index_of same v vs < length vs
   unfolding index_of
+  index-within v [] x' = elim x' [ ]
   index-within v (w ∷ ws) (Memᴰ.head e) =
       subst (λ (t : Bool). cond t 0 (suc (index_of same v ws)) < suc (length ws)) (sym ((tells v w).1 e)) (omega arith)
   index-within v (w ∷ ws) (Memᴰ.tail m) = go (same v w) (index-within v ws m)

@@ -35,6 +35,8 @@ alike_right {R = R} (present {v = v} r) e = (v, refl, subst (λ u. R v u) (some-
 
 module _ {L A B : Type 0} (R : A → B → Type 0) (g : Graph L A) (h : Graph L B) (b : Bisimilar R g h) where
   alike-step : (x : Option A) (y : Option B) (f : ℕ) → Alike R x y → Alike R (step g.link x f) (step h.link y f)
+  alike-step none (some w) f x3 = elim x3 [ ]
+  alike-step (some v) none f x4 = elim x4 [ ]
   alike-step none none f absent = absent
   alike-step (some v) (some w) f (present r) = b.links v w f r
 
