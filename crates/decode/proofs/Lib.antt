@@ -1,7 +1,6 @@
 -- These files have the laws of decoding.
 pub mod Steps
 pub mod Labels
-pub mod Thin
 pub mod Word
 pub mod Reading
 pub mod Decoded

@@ -1,7 +1,4 @@
 -- These files have the laws of rows and of the loops over them.
-pub mod BigLit
-pub mod Laid
-pub mod LocalArray
 pub mod Known
 pub mod Placed
 pub mod FilledRows

@@ -1,0 +1,81 @@
+-- `numbering::visit` meets its contract. The measure is the depth left. The loop's invariant: what the visit finds is what following the
+-- rest of the targets finds.
+use Prim.Native.Nat.{ℕ, ◌<◌, ◌+◌, ◌-◌}
+use mathlib.Core.Logic.{⊎_elim}
+use native.Mathlib.Omega.{arith}
+use borrow.Author.Rules.{rules}
+use Rattle.visits.specs.Visiting.{seen_of, below}
+use Rattle.visits.proofs.Visiting.{Follows, follow, follows-as, follow-met, follow-found, found_all, found-crowded, found-deep, found-full, entered, ready, target-in, place-in, listed}
+use Rattle.visits.proofs.numbering.+visit.Goals as goal
+
+pub bounds-graph-v : goal.bounds-graph-v
+bounds-graph-v t c = listed c.requires.1
+
+pub overflow_cast-end : goal.overflow_cast-end
+overflow_cast-end t c = omega (arith, c.type_inv.graph (c.args.v + 2))
+
+pub links_from-k-requires : goal.links_from-k-requires
+links_from-k-requires t c = omega (arith, listed c.requires.1)
+
+pub loop-k-init : goal.loop-k-init
+loop-k-init t c = rw c.links_from-k.ensures (follow c.args.depth c.requires.1)
+
+pub offset_bounds-graph-k : goal.offset_bounds-graph-k
+offset_bounds-graph-k t c = omega (arith, c.type_inv.graph (c.args.v + 2))
+
+pub bounds-graph-k : goal.bounds-graph-k
+bounds-graph-k t c = place-in c.loop-k.invariant c.loop-k-test.true
+
+pub offset_bounds-numbers-w : goal.offset_bounds-numbers-w
+offset_bounds-numbers-w t c =
+    omega (arith, c.target-w.ensures, target-in c.loop-k.invariant c.loop-k-test.true)
+
+pub bounds-numbers-w : goal.bounds-numbers-w
+bounds-numbers-w t c =
+    omega (arith, c.target-w.ensures, target-in c.loop-k.invariant c.loop-k-test.true)
+
+pub returns-then-count-ge255 : goal.returns-then-count-ge255
+returns-then-count-ge255 t c =
+    entered c.requires.1 c.args.depth 256 c.loop-k.numbers c.loop-k.visited
+    (found-crowded c.loop-k.invariant c.loop-k-test.true (rw c.target-w.ensures at c.if-numbers-w.true) (omega (arith, c.if-count-ge255.true)))
+
+pub returns-then-depth-eq0 : goal.returns-then-depth-eq0
+returns-then-depth-eq0 t c =
+    entered c.requires.1 c.args.depth 256 c.loop-k.numbers c.loop-k.visited
+    (found-deep c.loop-k.invariant c.loop-k-test.true (rw c.target-w.ensures at c.if-numbers-w.true) c.if-depth-eq0.true)
+
+pub visit-count-requires : goal.visit-count-requires
+visit-count-requires t c =
+    let is = c.target-w.ensures in (
+      search rules,
+      rw is (ready c.loop-k.invariant c.loop-k-test.true (rw is at c.if-numbers-w.true)
+          (omega (arith, c.if-count-ge255.false))),
+    )
+
+pub returns-then-count-gt255 : goal.returns-then-count-gt255
+returns-then-count-gt255 t c =
+    let is = c.target-w.ensures in
+    entered c.requires.1 c.args.depth 256 c.visit-count.new.1.0 c.visit-count.new.1.1.0
+    (found-full c.loop-k.invariant c.loop-k-test.true (rw is at c.if-numbers-w.true)
+    (omega (arith, c.if-count-ge255.false)) c.if-depth-eq0.false (rw is at c.visit-count.ensures) c.if-count-gt255.true)
+
+pub overflow_add-k : goal.overflow_add-k
+overflow_add-k t c = omega (arith, c.type_inv.graph (c.args.v + 2))
+
+pub loop-k-preserved : goal.loop-k-preserved
+loop-k-preserved t c =
+    let is = c.target-w.ensures in
+    ⊎_elim
+    (λ w.
+    follows-as w.7 w.8 w.9
+    (follow-found c.loop-k.invariant c.loop-k-test.true (rw is at w.0.taken)
+    (omega (arith, w.1.left)) w.2.left (rw is at w.5.ensures) w.6.left))
+    (λ w.
+    follows-as w.1 w.2 w.3
+    (follow-met c.loop-k.invariant c.loop-k-test.true (rw is at w.0.left)))
+    c.if-numbers-w.branch
+
+pub returns : goal.returns
+returns t c =
+    entered c.requires.1 c.args.depth c.loop-k.count c.loop-k.numbers c.loop-k.visited
+    (found_all c.loop-k.invariant c.loop-k-test.false)

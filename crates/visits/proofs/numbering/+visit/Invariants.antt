@@ -1,0 +1,15 @@
+-- The measure is the depth left. The loop's invariant: what the visit finds is what following the rest of the targets finds.
+use Prim.Native.Nat.{◌-◌}
+use Rattle.visits.specs.Visiting.{seen_of, below}
+use Rattle.visits.proofs.Visiting.{Follows}
+use Rattle.visits.proofs.numbering.+visit.Given as goal
+
+abbrev pub decreases-visit : goal.decreases-visit
+decreases-visit l = l.depth
+
+abbrev pub invariant-loop-k : goal.invariant-loop-k
+invariant-loop-k l =
+    Follows l.graph l.v l.depth (below l.graph l.depth l.v (seen_of l.initial.visited l.given)) l.numbers l.visited l.count l.k
+
+abbrev pub decreases-loop-k : goal.decreases-loop-k
+decreases-loop-k l = l.end - l.k
