@@ -9,22 +9,22 @@ use Rattle.text.proofs.+put_decimal.Goals as goal
 
 pub bounds-out-at : goal.bounds-out-at
 bounds-out-at t c =
-    omega (arith, c.requires.1, ap length (decimal-one c.args.n c.if-n-lt10.true))
+    omega (arith, c.requires, ap length (decimal-one c.args.n c.if-n-lt10.true))
 
 pub returns-then-n-lt10 : goal.returns-then-n-lt10
 returns-then-n-lt10 t c = puts-digit c.args.n _ _ _ c.if-n-lt10.true c.digit.ensures
 
 pub put_decimal-next-requires : goal.put_decimal-next-requires
 put_decimal-next-requires t c =
-    (omega (arith, c.requires.0, c.if-n-lt10.false), omega (arith, c.requires.1, decimal-length c.args.n c.if-n-lt10.false))
+    (omega (arith, c.if-n-lt10.false), omega (arith, c.requires, decimal-length c.args.n c.if-n-lt10.false))
 
 pub bounds-out-next : goal.bounds-out-next
 bounds-out-next t c =
-    omega (arith, c.requires.1, decimal-length c.args.n c.if-n-lt10.false, c.put_decimal-next.ensures.next-is)
+    omega (arith, c.requires, decimal-length c.args.n c.if-n-lt10.false, c.put_decimal-next.ensures.next-is)
 
 pub overflow_add-result-2 : goal.overflow_add-result-2
 overflow_add-result-2 t c =
-    omega (arith, c.requires.1, decimal-length c.args.n c.if-n-lt10.false, c.put_decimal-next.ensures.next-is)
+    omega (arith, c.requires, decimal-length c.args.n c.if-n-lt10.false, c.put_decimal-next.ensures.next-is)
 
 pub returns : goal.returns
 returns t c =

@@ -9,16 +9,16 @@ use Rattle.visits.proofs.Visiting.{Follows, follow, follows-as, follow-met, foll
 use Rattle.visits.proofs.numbering.+visit.Goals as goal
 
 pub bounds-graph-v : goal.bounds-graph-v
-bounds-graph-v t c = listed c.requires.1
+bounds-graph-v t c = listed c.requires
 
 pub overflow_cast-end : goal.overflow_cast-end
 overflow_cast-end t c = omega (arith, c.type_inv.graph (c.args.v + 2))
 
 pub links_from-k-requires : goal.links_from-k-requires
-links_from-k-requires t c = omega (arith, listed c.requires.1)
+links_from-k-requires t c = omega (arith, listed c.requires)
 
 pub loop-k-init : goal.loop-k-init
-loop-k-init t c = rw c.links_from-k.ensures (follow c.args.depth c.requires.1)
+loop-k-init t c = rw c.links_from-k.ensures (follow c.args.depth c.requires)
 
 pub offset_bounds-graph-k : goal.offset_bounds-graph-k
 offset_bounds-graph-k t c = omega (arith, c.type_inv.graph (c.args.v + 2))
@@ -36,12 +36,12 @@ bounds-numbers-w t c =
 
 pub returns-then-count-ge255 : goal.returns-then-count-ge255
 returns-then-count-ge255 t c =
-    entered c.requires.1 c.args.depth 256 c.loop-k.numbers c.loop-k.visited
+    entered c.requires c.args.depth 256 c.loop-k.numbers c.loop-k.visited
     (found-crowded c.loop-k.invariant c.loop-k-test.true (rw c.target-w.ensures at c.if-numbers-w.true) (omega (arith, c.if-count-ge255.true)))
 
 pub returns-then-depth-eq0 : goal.returns-then-depth-eq0
 returns-then-depth-eq0 t c =
-    entered c.requires.1 c.args.depth 256 c.loop-k.numbers c.loop-k.visited
+    entered c.requires c.args.depth 256 c.loop-k.numbers c.loop-k.visited
     (found-deep c.loop-k.invariant c.loop-k-test.true (rw c.target-w.ensures at c.if-numbers-w.true) c.if-depth-eq0.true)
 
 pub visit-count-requires : goal.visit-count-requires
@@ -55,7 +55,7 @@ visit-count-requires t c =
 pub returns-then-count-gt255 : goal.returns-then-count-gt255
 returns-then-count-gt255 t c =
     let is = c.target-w.ensures in
-    entered c.requires.1 c.args.depth 256 c.visit-count.new.1.0 c.visit-count.new.1.1.0
+    entered c.requires c.args.depth 256 c.visit-count.new.1.0 c.visit-count.new.1.1.0
     (found-full c.loop-k.invariant c.loop-k-test.true (rw is at c.if-numbers-w.true)
     (omega (arith, c.if-count-ge255.false)) c.if-depth-eq0.false (rw is at c.visit-count.ensures) c.if-count-gt255.true)
 
@@ -77,5 +77,5 @@ loop-k-preserved t c =
 
 pub returns : goal.returns
 returns t c =
-    entered c.requires.1 c.args.depth c.loop-k.count c.loop-k.numbers c.loop-k.visited
+    entered c.requires c.args.depth c.loop-k.count c.loop-k.numbers c.loop-k.visited
     (found_all c.loop-k.invariant c.loop-k-test.false)

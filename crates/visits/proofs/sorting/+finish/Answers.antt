@@ -10,39 +10,39 @@ use Rattle.visits.proofs.Colouring.{Passing, whites-down, passing-start, listed,
 use Rattle.visits.proofs.sorting.+finish.Goals as goal
 
 pub bounds-graph-v : goal.bounds-graph-v
-bounds-graph-v t c = listed c.requires.1
+bounds-graph-v t c = listed c.requires
 
 pub overflow_cast-end : goal.overflow_cast-end
 overflow_cast-end t c = omega (arith, c.type_inv.graph (c.args.v + 2))
 
 pub links_from-k-requires : goal.links_from-k-requires
-links_from-k-requires t c = omega (arith, listed c.requires.1)
+links_from-k-requires t c = omega (arith, listed c.requires)
 
 pub loop-k-init : goal.loop-k-init
-loop-k-init t c = rw c.links_from-k.ensures (passing-start c.requires.1)
+loop-k-init t c = rw c.links_from-k.ensures (passing-start c.requires)
 
 pub offset_bounds-graph-k : goal.offset_bounds-graph-k
 offset_bounds-graph-k t c = omega (arith, c.type_inv.graph (c.args.v + 2))
 
 pub bounds-graph-k : goal.bounds-graph-k
-bounds-graph-k t c = place-in c.requires.1 c.loop-k-test.true
+bounds-graph-k t c = place-in c.requires c.loop-k-test.true
 
 pub offset_bounds-colour-w : goal.offset_bounds-colour-w
-offset_bounds-colour-w t c = omega (arith, c.target-w.ensures, target-in c.requires.1 c.loop-k.invariant c.loop-k-test.true)
+offset_bounds-colour-w t c = omega (arith, c.target-w.ensures, target-in c.requires c.loop-k.invariant c.loop-k-test.true)
 
 pub bounds-colour-w : goal.bounds-colour-w
-bounds-colour-w t c = omega (arith, c.target-w.ensures, target-in c.requires.1 c.loop-k.invariant c.loop-k-test.true)
+bounds-colour-w t c = omega (arith, c.target-w.ensures, target-in c.requires c.loop-k.invariant c.loop-k-test.true)
 
 pub returns-then-c-eq1 : goal.returns-then-c-eq1
 returns-then-c-eq1 t c =
     leaves-back c.loop-k.invariant.advanced.placed.long c.loop-k.invariant.advanced.placed.roomy
-    (closes c.requires.1 c.loop-k.invariant c.loop-k-test.true (rw c.target-w.ensures at c.if-c-eq1.true))
+    (closes c.requires c.loop-k.invariant c.loop-k-test.true (rw c.target-w.ensures at c.if-c-eq1.true))
 
 pub finish-requires : goal.finish-requires
 finish-requires t c =
     let is = c.target-w.ensures in (
-      omega (arith, c.requires.0, c.loop-k.invariant.advanced.fewer, whites-down c.requires.1),
-      rw is (entered c.requires.1 c.loop-k.invariant c.loop-k-test.true (rw is at c.if-c-eq0.true)),
+      omega (arith, c.loop-k.invariant.advanced.fewer, whites-down c.requires),
+      rw is (entered c.requires c.loop-k.invariant c.loop-k-test.true (rw is at c.if-c-eq0.true)),
     )
 
 pub returns-in-Back : goal.returns-in-Back
@@ -59,10 +59,10 @@ loop-k-preserved t c =
     ⊎_elim
     (λ w.
     rw (w.7, w.8, w.9)
-    (passing-down c.requires.1 c.loop-k.invariant c.loop-k-test.true ((rw is at w.3.ensures).counted _ w.5.given.1)
+    (passing-down c.requires c.loop-k.invariant c.loop-k-test.true ((rw is at w.3.ensures).counted _ w.5.given.1)
     ((rw is at w.3.ensures).finished _ w.5.given.1)))
-    (λ w. rw (w.1, w.2, w.3) (passing-over c.requires.1 c.loop-k.invariant c.loop-k-test.true (omega (arith, rw is at w.0.left, rw is at c.if-c-eq1.false))))
+    (λ w. rw (w.1, w.2, w.3) (passing-over c.requires c.loop-k.invariant c.loop-k-test.true (omega (arith, rw is at w.0.left, rw is at c.if-c-eq1.false))))
     c.if-c-eq0.branch
 
 pub returns : goal.returns
-returns t c = finishes c.requires.1 c.loop-k.invariant c.loop-k-test.false
+returns t c = finishes c.requires c.loop-k.invariant c.loop-k-test.false
