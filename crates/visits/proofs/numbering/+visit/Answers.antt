@@ -55,7 +55,7 @@ visit-count-requires t c =
 pub returns-then-count-gt255 : goal.returns-then-count-gt255
 returns-then-count-gt255 t c =
     let is = c.target-w.ensures in
-    entered c.requires c.args.depth 256 c.visit-count.new.1.0 c.visit-count.new.1.1.0
+    entered c.requires c.args.depth 256 c.visit-count.new.visited.0 c.visit-count.new.1.1.0
     (found-full c.loop-k.invariant c.loop-k-test.true (rw is at c.if-numbers-w.true)
     (omega (arith, c.if-count-ge255.false)) c.if-depth-eq0.false (rw is at c.visit-count.ensures) c.if-count-gt255.true)
 

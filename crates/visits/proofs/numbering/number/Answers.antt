@@ -5,16 +5,16 @@ use Rattle.visits.proofs.Visiting.{numbered, unmarked}
 use Rattle.visits.proofs.numbering.number.Goals as goal
 
 pub bounds-graph-0 : goal.bounds-graph-0
-bounds-graph-0 c = sized c.requires.0
+bounds-graph-0 c = sized c.requires.sound
 
 pub visit-requires : goal.visit-requires
 visit-requires c =
     let cleared = c.clear in
     record {
-      sound = c.requires.0;
-      marks = unmarked c.args.graph.now cleared.new.1.0 c.args.visited.now cleared.ensures.0 c.requires.1.1 cleared.ensures.1;
-      inside = c.requires.0.shaped.nonempty;
-      fresh = cleared.ensures.1 0 c.requires.0.shaped.nonempty;
+      sound = c.requires.sound;
+      marks = unmarked c.args.graph.now cleared.new.1.0 c.args.visited.now cleared.ensures.numbers_len_2 c.requires.numbers_len.1 cleared.ensures.by_index;
+      inside = c.requires.sound.shaped.nonempty;
+      fresh = cleared.ensures.by_index 0 c.requires.sound.shaped.nonempty;
       room = omega arith;
     }
 

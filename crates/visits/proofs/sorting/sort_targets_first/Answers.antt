@@ -7,19 +7,19 @@ use Rattle.visits.proofs.Colouring.{sweeping-start, sweeping-entered, sweeping-o
 use Rattle.visits.proofs.sorting.sort_targets_first.Goals as goal
 
 pub bounds-graph-0 : goal.bounds-graph-0
-bounds-graph-0 c = sized c.requires.0
+bounds-graph-0 c = sized c.requires.sound
 
 pub loop-v-init : goal.loop-v-init
-loop-v-init c = sweeping-start c.requires.0 _ _ refl c.requires.1
+loop-v-init c = sweeping-start c.requires.sound _ _ refl c.requires.order_len
 
 pub finish-requires : goal.finish-requires
 finish-requires c = sweeping-entered c.loop-v.invariant (omega arith) c.if-colour-v-eq0.true
 
 pub returns-in-Back : goal.returns-in-Back
-returns-in-Back c = (looped-sorts (c.finish.ensures.looped c.in-Back.is), c.finish.ensures.roomy)
+returns-in-Back c = (record { sorts = looped-sorts (c.finish.ensures.looped c.in-Back.is); order_len_2 = c.finish.ensures.roomy })
 
 pub loop-v-preserved : goal.loop-v-preserved
 loop-v-preserved c = ⊎_elim (λ w. rw (w.7, w.8, w.9) (sweeping-down c.loop-v.invariant (omega arith) (w.3.ensures.counted _ w.5.given.1) (w.3.ensures.finished _ w.5.given.1))) (λ w. rw (w.1, w.2, w.3) (sweeping-over c.loop-v.invariant (omega arith) w.0.left)) c.if-colour-v-eq0.branch
 
 pub returns : goal.returns
-returns c = (sweeping-sorts c.loop-v.invariant c.loop-v-test.false, c.loop-v.invariant.placed.roomy)
+returns c = (record { sorts = sweeping-sorts c.loop-v.invariant c.loop-v-test.false; order_len_2 = c.loop-v.invariant.placed.roomy })
