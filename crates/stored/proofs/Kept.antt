@@ -139,6 +139,7 @@ module _ (n : ℕ) (t : List ℕ) (opens : opened n t ≡ Accepted) where
     pub kept-program : (bytes : List ℕ) (cs : List Call) (buffer : List ℕ) (ps : Programs) → Holds n t buffer ps → Keeps n t version bytes buffer cs →
         (rows : List (Row Label)) × (reading n bytes ≡ accepted rows) × (get_or (programs_after n t buffer ps cs) version none ≡ some (written_record rows))
     unfolding programs_after
+    kept-program bytes [] buffer ps holds x'' = elim x'' [ ]
     kept-program bytes (c ∷ cs) buffer ps holds (turns.here _ l _ told kept) =
         let given : length_of (putting n t buffer version bytes).reply ≡ some l = ap length_of told in
         let (few, free, (rows, reads)) = put-given n t opens buffer ps holds version bytes l given in

@@ -92,6 +92,8 @@ module _ {L A B : Type 0} (R : A → B → Type 0) (g : Graph L A) (h : Graph L 
     (links : (v : A) (w : B) (f : ℕ) → R v w → Alike R (g.link v f) (h.link w f)) where
   holds-alike : (s : A → Bool) (t : B → Bool) → ((v : A) (w : B) → R v w → s v ≡ t w) → (o : Option A) (p : Option B) → Alike R o p →
       holds s o ≡ holds t p
+  holds-alike s t e none (some w) x'' = elim x'' [ ]
+  holds-alike s t e (some v) none x3 = elim x3 [ ]
   holds-alike s t e none none absent = refl
   holds-alike s t e (some v) (some w) (present r) = e v w r
 

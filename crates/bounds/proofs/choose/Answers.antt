@@ -59,5 +59,5 @@ returns c =
     let passed = order-words (held c.is_sized.ensures c.if-not-is_sized.false) c.read_words-down.ensures (held c.is_ordered.ensures c.if-not-is_ordered.false) in
     let stands = not-false c.hold.result c.if-not-hold.false in
     chooses-sets a.up a.n a.table.now _
-    (sets-held a.n a.table.now _ passed a.up _ (sym c.hold.ensures.0 ∙ stands) (c.hold.ensures.1.0 stands)
+    (sets-held a.n a.table.now _ passed a.up _ (sym c.hold.ensures.res ∙ stands) (c.hold.ensures.left.0 stands)
     (sym (not-false c.are_bounded.result c.if-not-are_bounded.false) ∙ c.are_bounded.ensures))

@@ -24,7 +24,7 @@ returns-then-up c =
     let passed = words-ordered a.n a.table.now c.requires.0 c.requires.1 c.read_words-down.result c.read_words-down.ensures in
     let turn = c.turn_words-above in
     let made = up-words a.n a.table.now _ passed turn.result turn.ensures in
-    fills-found a.n a.table.now _ passed true turn.result made _ a.up c.if-up.true _ _ _ c.bounded.ensures c.fill.ensures.0 c.fill.ensures.1
+    fills-found a.n a.table.now _ passed true turn.result made _ a.up c.if-up.true _ _ _ c.bounded.ensures c.fill.ensures.all c.fill.ensures.rows
 
 pub fill-requires-2 : goal.fill-requires-2
 fill-requires-2 c =
@@ -36,4 +36,4 @@ pub returns : goal.returns
 returns c =
     let a = c.args in
     let passed = words-ordered a.n a.table.now c.requires.0 c.requires.1 c.read_words-down.result c.read_words-down.ensures in
-    fills-found a.n a.table.now _ passed false c.read_words-down.result c.read_words-down.ensures _ a.up c.if-up.false _ _ _ c.bounded-2.ensures c.fill-2.ensures.0 c.fill-2.ensures.1
+    fills-found a.n a.table.now _ passed false c.read_words-down.result c.read_words-down.ensures _ a.up c.if-up.false _ _ _ c.bounded-2.ensures c.fill-2.ensures.all c.fill-2.ensures.rows

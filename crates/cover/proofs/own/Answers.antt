@@ -5,10 +5,10 @@ use Rattle.classes.proofs.forest.unite.Reads as unite-reads
 use Rattle.cover.proofs.own.Goals as goal
 
 pub overflow_cast-x : goal.overflow_cast-x
-overflow_cast-x c = let f = c.requires.1 in omega (arith, f.3 (λ e. omega (arith, c.if-x.false, e)), f.1.few)
+overflow_cast-x c = let f = c.requires.by_index in omega (arith, f.3 (λ e. omega (arith, c.if-x.false, e)), f.1.few)
 
 pub unite-requires : goal.unite-requires
-unite-requires c = let f = c.requires.1 in (f.0, f.1, f.3 (λ e. omega (arith, c.if-x.false, e)), f.2)
+unite-requires c = let f = c.requires.by_index in (f.0, f.1, f.3 (λ e. omega (arith, c.if-x.false, e)), f.2)
 
 pub returns-then-x : goal.returns-then-x
 returns-then-x c = record { first = λ e. (refl, refl); later = λ d. absurd (d c.if-x.true) }

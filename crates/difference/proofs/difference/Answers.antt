@@ -9,11 +9,11 @@ slice_bounds-difference_in-end c = sym (marks-fresh 768 c.args.s.now (omega (ari
 
 pub difference_in-requires : goal.difference_in-requires
 difference_in-requires c =
-    ((c.requires.0, c.requires.1), (c.requires.2, marks-fresh 768 c.args.s.now (omega (arith, c.if-words-le-SHORT.true))))
+    (record { comparable = (c.requires.0, c.requires.1); g_len = (c.requires.2, marks-fresh 768 c.args.s.now (omega (arith, c.if-words-le-SHORT.true))) })
 
 pub slice_bounds-difference_in-end-2 : goal.slice_bounds-difference_in-end-2
 slice_bounds-difference_in-end-2 c = sym (marks-fresh 2815 c.args.s.now c.requires.0.short)
 
 pub difference_in-requires-2 : goal.difference_in-requires-2
 difference_in-requires-2 c =
-    ((c.requires.0, c.requires.1), (c.requires.2, marks-fresh 2815 c.args.s.now c.requires.0.short))
+    (record { comparable = (c.requires.table_value, c.requires.loaded); g_len = (c.requires.2, marks-fresh 2815 c.args.s.now c.requires.table_value.short) })

@@ -23,10 +23,31 @@ pub kept_links-requires : goal.kept_links-requires
 kept_links-requires c =
     let given = c.requires.0.3 in
     let size = accepted-size c.args.n c.args.table.now given.asked.ok in
-    let labels = wants-known given.asked given.wants in (
+    let labels = wants-known given.asked given.wants in ((((
       markable-words given.asked given.marked.stands.long c.kept_nodes.ensures.long,
       ((labels.long, λ v h. known_more (omega (arith, size.1)) (labels.known v h)), c.requires.1),
-    )
+    ).value, (
+      markable-words given.asked given.marked.stands.long c.kept_nodes.ensures.long,
+      ((labels.long, λ v h. known_more (omega (arith, size.1)) (labels.known v h)), c.requires.1),
+    ).out_after).value, ((
+      markable-words given.asked given.marked.stands.long c.kept_nodes.ensures.long,
+      ((labels.long, λ v h. known_more (omega (arith, size.1)) (labels.known v h)), c.requires.1),
+    ).value, (
+      markable-words given.asked given.marked.stands.long c.kept_nodes.ensures.long,
+      ((labels.long, λ v h. known_more (omega (arith, size.1)) (labels.known v h)), c.requires.1),
+    ).out_after).out_after).value, (((
+      markable-words given.asked given.marked.stands.long c.kept_nodes.ensures.long,
+      ((labels.long, λ v h. known_more (omega (arith, size.1)) (labels.known v h)), c.requires.1),
+    ).value, (
+      markable-words given.asked given.marked.stands.long c.kept_nodes.ensures.long,
+      ((labels.long, λ v h. known_more (omega (arith, size.1)) (labels.known v h)), c.requires.1),
+    ).out_after).value, ((
+      markable-words given.asked given.marked.stands.long c.kept_nodes.ensures.long,
+      ((labels.long, λ v h. known_more (omega (arith, size.1)) (labels.known v h)), c.requires.1),
+    ).value, (
+      markable-words given.asked given.marked.stands.long c.kept_nodes.ensures.long,
+      ((labels.long, λ v h. known_more (omega (arith, size.1)) (labels.known v h)), c.requires.1),
+    ).out_after).out_after).out_after)
 
 pub returns : goal.returns
 returns c = record { keep = _; kept = c.kept_nodes.ensures; rows = c.kept_links.ensures }

@@ -15,7 +15,7 @@ pub write_marked-requires : goal.write_marked-requires
 write_marked-requires c =
     let pre = c.requires in
     let ready = pre.0 (replicate 255 0) (length-replicate {A = ℕ} 255 0) in
-    (pre.1.sound, (omega (arith, pre.1.long, ready.short), c.explain_links.ensures.long))
+    (record { sound = pre.1.sound; graph_len_bound = (omega (arith, pre.1.long, ready.short), c.explain_links.ensures.long) })
 
 pub returns : goal.returns
 returns c =

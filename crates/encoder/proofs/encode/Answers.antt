@@ -8,10 +8,10 @@ use Rattle.encoder.proofs.WrittenRows.{progress_start, progress-room, progress_s
 use Rattle.encoder.proofs.encode.Goals as goal
 
 pub bounds-out-0 : goal.bounds-out-0
-bounds-out-0 c = omega (arith, c.requires.1, encoded-length (numbered_rows c.args.graph.now c.args.numbers.now (take c.args.count c.args.visited.now)))
+bounds-out-0 c = omega (arith, c.requires.visited_in_bounds, encoded-length (numbered_rows c.args.graph.now c.args.numbers.now (take c.args.count c.args.visited.now)))
 
 pub loop-number-init : goal.loop-number-init
-loop-number-init c = (c.requires.0, omega arith, progress_start c.args.graph.now c.args.numbers.now c.args.visited.now _)
+loop-number-init c = (c.requires.visited, omega arith, progress_start c.args.graph.now c.args.numbers.now c.args.visited.now _)
 
 pub offset_bounds-visited-number : goal.offset_bounds-visited-number
 offset_bounds-visited-number c = omega (arith, c.loop-number.invariant.0.few, c.loop-number-test.true)
@@ -23,12 +23,12 @@ pub overflow_cast-v : goal.overflow_cast-v
 overflow_cast-v c = omega (arith, visited-small c.loop-number.invariant.0 c.loop-number.number c.loop-number-test.true)
 
 pub encode_row-at-requires : goal.encode_row-at-requires
-encode_row-at-requires c = (
-  (c.loop-number.invariant.0.sound, c.loop-number.invariant.0.nodes c.loop-number.number c.loop-number-test.true),
-  progress-room c.args.graph.now c.args.numbers.now c.args.visited.now c.loop-number.number
+encode_row-at-requires c = (record {
+  sound = (c.loop-number.invariant.0.sound, c.loop-number.invariant.0.nodes c.loop-number.number c.loop-number-test.true);
+  v_in_bounds = progress-room c.args.graph.now c.args.numbers.now c.args.visited.now c.loop-number.number
       (omega (arith, c.loop-number.invariant.0.few, c.loop-number.invariant.0.long, c.loop-number-test.true)) c.loop-number.invariant.2 c.loop-number-test.true
-      (simp length-set c.requires.1),
-)
+      (simp length-set c.requires.visited_in_bounds);
+})
 
 pub overflow_add-number : goal.overflow_add-number
 overflow_add-number c = omega (arith, c.loop-number.invariant.0.few, c.loop-number-test.true)
@@ -41,7 +41,7 @@ loop-number-preserved c = (
   c.loop-number.invariant.0,
   omega (arith, c.loop-number-test.true),
   progress_step c.args.graph.now c.args.numbers.now c.args.visited.now c.loop-number.number
-      (omega (arith, c.loop-number.invariant.0.few, c.loop-number.invariant.0.long, c.loop-number-test.true)) c.loop-number.invariant.2 c.encode_row-at.ensures,
+      (omega (arith, c.loop-number.invariant.0.few, c.loop-number.invariant.0.long, c.loop-number-test.true)) c.loop-number.invariant.2 (c.encode_row-at.ensures.value, c.encode_row-at.ensures.out_after),
 )
 
 pub shape_of-out : goal.shape_of-out
@@ -50,4 +50,4 @@ shape_of-out c = c.loop-number.invariant.2.length-is ∙ simp length-set
 pub returns : goal.returns
 returns c =
     progress-done c.args.graph.now c.args.numbers.now c.args.visited.now c.args.out.now c.loop-number.invariant.2
-    (omega (arith, c.loop-number-test.false, c.loop-number.invariant.1)) c.loop-number.invariant.0.few (omega (arith, c.loop-number.invariant.0.few, c.loop-number.invariant.0.long))
+    (omega (arith, c.loop-number-test.false, c.loop-number.invariant.1)) c.loop-number.invariant.markable.few (omega (arith, c.loop-number.invariant.0.few, c.loop-number.invariant.0.long))

@@ -5,46 +5,46 @@ use Rattle.encoder.proofs.WrittenRows.{label-room, map-room, row-start, turn_ste
 use Rattle.encoder.proofs.encode_row.Goals as goal
 
 pub overflow_add-row : goal.overflow_add-row
-overflow_add-row c = omega (arith, c.requires.0.1, c.requires.0.0.shaped.few)
+overflow_add-row c = omega (arith, c.requires.sound.1, c.requires.sound.0.shaped.few)
 
 pub offset_bounds-graph-v : goal.offset_bounds-graph-v
-offset_bounds-graph-v c = omega (arith, c.requires.0.1, c.requires.0.0.shaped.few)
+offset_bounds-graph-v c = omega (arith, c.requires.sound.1, c.requires.sound.0.shaped.few)
 
 pub bounds-graph-v : goal.bounds-graph-v
-bounds-graph-v c = omega (arith, (c.requires.0.0.shaped.node c.args.v c.requires.0.1).listed)
+bounds-graph-v c = omega (arith, (c.requires.sound.0.shaped.node c.args.v c.requires.sound.1).listed)
 
 pub overflow_cast-row : goal.overflow_cast-row
 overflow_cast-row c = omega (arith, c.type_inv.graph (c.args.v + 1))
 
 pub overflow_add-end : goal.overflow_add-end
-overflow_add-end c = omega (arith, c.requires.0.1, c.requires.0.0.shaped.few)
+overflow_add-end c = omega (arith, c.requires.sound.1, c.requires.sound.0.shaped.few)
 
 pub offset_bounds-graph-v-2 : goal.offset_bounds-graph-v-2
-offset_bounds-graph-v-2 c = omega (arith, c.requires.0.1, c.requires.0.0.shaped.few)
+offset_bounds-graph-v-2 c = omega (arith, c.requires.sound.1, c.requires.sound.0.shaped.few)
 
 pub bounds-graph-v-2 : goal.bounds-graph-v-2
-bounds-graph-v-2 c = (c.requires.0.0.shaped.node c.args.v c.requires.0.1).listed
+bounds-graph-v-2 c = (c.requires.sound.0.shaped.node c.args.v c.requires.sound.1).listed
 
 pub overflow_cast-end : goal.overflow_cast-end
 overflow_cast-end c = omega (arith, c.type_inv.graph (c.args.v + 2))
 
 pub label_at-requires : goal.label_at-requires
-label_at-requires c = (c.requires.0.0.shaped, c.requires.0.1)
+label_at-requires c = (c.requires.sound.0.shaped, c.requires.sound.1)
 
 pub put_label-map_at-requires : goal.put_label-map_at-requires
 put_label-map_at-requires c =
-    label-room c.requires.0.0 c.args.v c.requires.0.1 c.args.numbers.now c.args.at c.label_at.ensures c.args.out.now c.requires.1
+    (let all = label-room c.requires.sound.0 c.args.v c.requires.sound.1 c.args.numbers.now c.args.at c.label_at.ensures c.args.out.now c.requires.v_in_bounds in (record { kind_bound = all.0; label_in_bounds = all.1 }))
 
 pub overflow_add-next : goal.overflow_add-next
 overflow_add-next c =
-    omega (arith, map-room c.requires.0.0 c.args.v c.requires.0.1 c.args.numbers.now c.args.at c.label_at.ensures c.args.out.now c.requires.1 c.put_label-map_at.ensures, c.well_formed.1.1.1.1.0)
+    omega (arith, map-room c.requires.sound.0 c.args.v c.requires.sound.1 c.args.numbers.now c.args.at c.label_at.ensures c.args.out.now c.requires.v_in_bounds (c.put_label-map_at.ensures.value, c.put_label-map_at.ensures.out_after), c.well_formed.1.1.1.1.0)
 
 pub overflow_add-k : goal.overflow_add-k
 overflow_add-k c = omega (arith, c.type_inv.graph (c.args.v + 1))
 
 pub loop-k-init : goal.loop-k-init
 loop-k-init c =
-    (omega (arith, c.type_inv.graph (c.args.v + 2)), row-start c.requires.0.0 c.args.v c.requires.0.1 c.args.numbers.now c.args.at c.label_at.ensures c.args.out.now c.requires.1 c.put_label-map_at.ensures)
+    (omega (arith, c.type_inv.graph (c.args.v + 2)), row-start c.requires.sound.0 c.args.v c.requires.sound.1 c.args.numbers.now c.args.at c.label_at.ensures c.args.out.now c.requires.v_in_bounds (c.put_label-map_at.ensures.value, c.put_label-map_at.ensures.out_after))
 
 pub offset_bounds-graph-k : goal.offset_bounds-graph-k
 offset_bounds-graph-k c = omega (arith, c.loop-k.invariant.0, c.loop-k-test.true)
@@ -93,4 +93,4 @@ shape_of-out c = c.put_map.auto.1.1.0 ∙ c.loop-k.invariant.1.length-is ∙ c.p
 
 pub returns : goal.returns
 returns c =
-    row_done c.requires.0.0 c.args.v c.requires.0.1 c.args.numbers.now c.args.at c.label_at.ensures c.args.out.now c.requires.1 c.put_label-map_at.ensures c.loop-k.invariant.1 c.loop-k-test.false c.put_map.ensures
+    row_done c.requires.sound.0 c.args.v c.requires.sound.1 c.args.numbers.now c.args.at c.label_at.ensures c.args.out.now c.requires.v_in_bounds c.put_label-map_at.ensures c.loop-k.invariant.1 c.loop-k-test.false c.put_map.ensures

@@ -46,7 +46,7 @@ pub loop-k-init : goal.loop-k-init
 loop-k-init c = row-start c.loop-v.v c.loop-v.invariant.1 c.loop-v.invariant.2 c.loop-v-test.true
 
 pub mark_place-requires : goal.mark_place-requires
-mark_place-requires c = let row = c.loop-k.invariant in ((row.owned, (_, row-place row c.loop-k-test.true)), row.marking)
+mark_place-requires c = let row = c.loop-k.invariant in (record { owned = (row.owned, (_, row-place row c.loop-k-test.true)); marking = row.marking })
 
 pub overflow_add-k-in-loop-k : goal.overflow_add-k-in-loop-k
 overflow_add-k-in-loop-k c = omega (arith, row_within c.loop-k.invariant c.loop-k-test.true)

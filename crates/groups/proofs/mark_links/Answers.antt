@@ -9,11 +9,11 @@ slice_bounds-mark_owned-end c = sym (unowned-fresh 768 c.args.s.now (omega (arit
 
 pub mark_owned-requires : goal.mark_owned-requires
 mark_owned-requires c =
-    ((c.requires.0, c.requires.1), (unowned-fresh 768 c.args.s.now (omega (arith, c.if-words-le-SHORT.true)), c.requires.2))
+    (record { lying = (c.requires.0, c.requires.1); unowned = (unowned-fresh 768 c.args.s.now (omega (arith, c.if-words-le-SHORT.true)), c.requires.2) })
 
 pub slice_bounds-mark_owned-end-2 : goal.slice_bounds-mark_owned-end-2
 slice_bounds-mark_owned-end-2 c = sym (unowned-fresh 2815 c.args.s.now c.requires.0.short).long
 
 pub mark_owned-requires-2 : goal.mark_owned-requires-2
 mark_owned-requires-2 c =
-    ((c.requires.0, c.requires.1), (unowned-fresh 2815 c.args.s.now c.requires.0.short, c.requires.2))
+    (record { lying = (c.requires.by_index, c.requires.marks_len); unowned = (unowned-fresh 2815 c.args.s.now c.requires(.by_index.short.value, .by_index.short.out_after), c.requires.2) })

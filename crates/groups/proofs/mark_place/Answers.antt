@@ -17,13 +17,13 @@ pub returns-then-x : goal.returns-then-x
 returns-then-x c = marking-bare c.requires c.if-x.true
 
 pub overflow_cast-c : goal.overflow_cast-c
-overflow_cast-c c = omega (arith, c.requires.0.0.low _ (here-within c.requires) c.if-x.false)
+overflow_cast-c c = omega (arith, c.requires.owned.0.low _ (here-within c.requires) c.if-x.false)
 
 pub offset_bounds-parent-x : goal.offset_bounds-parent-x
-offset_bounds-parent-x c = omega (arith, c.requires.0.0.low _ (here-within c.requires) c.if-x.false)
+offset_bounds-parent-x c = omega (arith, c.requires.owned.0.low _ (here-within c.requires) c.if-x.false)
 
 pub bounds-parent-x : goal.bounds-parent-x
-bounds-parent-x c = omega (arith, c.requires.0.0.low _ (here-within c.requires) c.if-x.false)
+bounds-parent-x c = omega (arith, c.requires.owned.0.low _ (here-within c.requires) c.if-x.false)
 
 pub overflow_cast-c-2 : goal.overflow_cast-c-2
 overflow_cast-c-2 c = omega (arith, here-class c.requires c.if-x.false)

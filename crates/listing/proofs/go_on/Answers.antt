@@ -56,7 +56,7 @@ returns c =
     let run = c.are_within.ensures.0 (not-false _ c.if-not-are_within.false) in
     let same = c.is_record.ensures.0 (not-false _ c.if-not-is_record.false) in
     count_kept c.args.features c.is_count.ensures c.if-not-is_count.false c.args.out.now
-    (c.write.ensures ∙ goes_on c.args.n c.args.features c.args.out.now c.requires.0 c.requires.1 f
+    (c.write.ensures ∙ goes_on c.args.n c.args.features c.args.out.now c.requires.count_bound c.requires.all_near f
     c.args.bytes.now c.requires.2
     (number_list c.numbers_of-d.result) c.numbers_of-d.ensures run same
     (number_list c.raise-raised.result.numbers)

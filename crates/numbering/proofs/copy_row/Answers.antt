@@ -8,43 +8,43 @@ use Rattle.numbering.proofs.CopiedRows.{turn-start, turn_step, turn-done, turn-e
 use Rattle.numbering.proofs.copy_row.Goals as goal
 
 pub overflow_add-row : goal.overflow_add-row
-overflow_add-row c = omega (arith, c.requires.0.inside, c.requires.0.sound.shaped.few)
+overflow_add-row c = omega (arith, c.requires.numbered.inside, c.requires.numbered.sound.shaped.few)
 
 pub offset_bounds-graph-v : goal.offset_bounds-graph-v
-offset_bounds-graph-v c = omega (arith, c.requires.0.inside, c.requires.0.sound.shaped.few)
+offset_bounds-graph-v c = omega (arith, c.requires.numbered.inside, c.requires.numbered.sound.shaped.few)
 
 pub bounds-graph-v : goal.bounds-graph-v
-bounds-graph-v c = omega (arith, (c.requires.0.sound.shaped.node c.args.v c.requires.0.inside).listed)
+bounds-graph-v c = omega (arith, (c.requires.numbered.sound.shaped.node c.args.v c.requires.numbered.inside).listed)
 
 pub overflow_cast-row : goal.overflow_cast-row
 overflow_cast-row c = omega (arith, c.type_inv.graph (c.args.v + 1))
 
 pub overflow_add-end : goal.overflow_add-end
-overflow_add-end c = omega (arith, c.requires.0.inside, c.requires.0.sound.shaped.few)
+overflow_add-end c = omega (arith, c.requires.numbered.inside, c.requires.numbered.sound.shaped.few)
 
 pub offset_bounds-graph-v-2 : goal.offset_bounds-graph-v-2
-offset_bounds-graph-v-2 c = omega (arith, c.requires.0.inside, c.requires.0.sound.shaped.few)
+offset_bounds-graph-v-2 c = omega (arith, c.requires.numbered.inside, c.requires.numbered.sound.shaped.few)
 
 pub bounds-graph-v-2 : goal.bounds-graph-v-2
-bounds-graph-v-2 c = (c.requires.0.sound.shaped.node c.args.v c.requires.0.inside).listed
+bounds-graph-v-2 c = (c.requires.numbered.sound.shaped.node c.args.v c.requires.numbered.inside).listed
 
 pub overflow_cast-end : goal.overflow_cast-end
 overflow_cast-end c = omega (arith, c.type_inv.graph (c.args.v + 2))
 
 pub label_at-label-requires : goal.label_at-label-requires
-label_at-label-requires c = (c.requires.0.sound.shaped, c.requires.0.inside)
+label_at-label-requires c = (c.requires.numbered.sound.shaped, c.requires.numbered.inside)
 
 pub put_label-requires : goal.put_label-requires
-put_label-requires c = omega (arith, c.requires.1.1)
+put_label-requires c = omega (arith, c.requires.v_bound.1)
 
 pub overflow_add-next : goal.overflow_add-next
-overflow_add-next c = omega (arith, c.requires.1.0)
+overflow_add-next c = omega (arith, c.requires.v_bound.0)
 
 pub overflow_add-k : goal.overflow_add-k
 overflow_add-k c = omega (arith, c.type_inv.graph (c.args.v + 1))
 
 pub loop-k-init : goal.loop-k-init
-loop-k-init c = (omega (arith, c.type_inv.graph (c.args.v + 2)), turn-start c.args.new.now c.requires.0 c.requires.1.0 c.requires.1.1 (c.put_label.ensures ∙ ap (put_label c.args.new.now c.args.at) c.label_at-label.ensures))
+loop-k-init c = (omega (arith, c.type_inv.graph (c.args.v + 2)), turn-start c.args.new.now c.requires.numbered c.requires.v_bound.0 c.requires.v_bound.1 (c.put_label.ensures ∙ ap (put_label c.args.new.now c.args.at) c.label_at-label.ensures))
 
 pub offset_bounds-graph-k : goal.offset_bounds-graph-k
 offset_bounds-graph-k c = omega (arith, c.loop-k.invariant.0, c.loop-k-test.true)

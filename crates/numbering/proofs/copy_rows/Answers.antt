@@ -5,16 +5,16 @@ use Rattle.numbering.proofs.CopiedRows.{copying-start, copying-numbered, copying
 use Rattle.numbering.proofs.copy_rows.Goals as goal
 
 pub overflow_add-at : goal.overflow_add-at
-overflow_add-at c = omega (arith, c.requires.0.nodes.few)
+overflow_add-at c = omega (arith, c.requires.closed.nodes.few)
 
 pub overflow_cast-new : goal.overflow_cast-new
-overflow_cast-new c = omega (arith, c.requires.0.nodes.few)
+overflow_cast-new c = omega (arith, c.requires.closed.nodes.few)
 
 pub bounds-new-1 : goal.bounds-new-1
-bounds-new-1 c = omega (arith, c.requires.1)
+bounds-new-1 c = omega (arith, c.requires.visited_in_bounds)
 
 pub loop-i-init : goal.loop-i-init
-loop-i-init c = copying-start c.args.new.now c.requires.0 c.requires.1
+loop-i-init c = copying-start c.args.new.now c.requires.closed c.requires.visited_in_bounds
 
 pub offset_bounds-visited-i : goal.offset_bounds-visited-i
 offset_bounds-visited-i c = omega (arith, c.loop-i.invariant.closed.nodes.few, c.loop-i-test.true)
@@ -26,7 +26,7 @@ pub overflow_cast-v : goal.overflow_cast-v
 overflow_cast-v c = omega (arith, visited-small c.loop-i.invariant.closed.nodes c.loop-i.i c.loop-i-test.true)
 
 pub copy_row-at-requires : goal.copy_row-at-requires
-copy_row-at-requires c = (copying-numbered c.loop-i.invariant c.loop-i-test.true, (copying-short c.loop-i.invariant c.loop-i-test.true, copying-room c.loop-i.invariant c.loop-i-test.true))
+copy_row-at-requires c = (record { numbered = copying-numbered c.loop-i.invariant c.loop-i-test.true; v_bound = (copying-short c.loop-i.invariant c.loop-i-test.true, copying-room c.loop-i.invariant c.loop-i-test.true) })
 
 pub overflow_cast-new-in-loop-i : goal.overflow_cast-new-in-loop-i
 overflow_cast-new-in-loop-i c = omega (arith, next_low c.loop-i.invariant c.loop-i-test.true c.copy_row-at.ensures)

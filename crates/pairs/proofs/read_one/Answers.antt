@@ -11,7 +11,7 @@ returns-then-list-eq0 c =
 
 pub read-requires-2 : goal.read-requires-2
 read-requires-2 c =
-    ((c.requires.0, c.requires.1 (ne_eqb _ 0 c.if-list-eq0.false)), c.requires.2)
+    (record { n_bound = (c.requires.0, c.requires.1 (ne_eqb _ 0 c.if-list-eq0.false)); roomy = c.requires.2 })
 
 pub returns : goal.returns
 returns c =

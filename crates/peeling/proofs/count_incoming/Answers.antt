@@ -9,10 +9,10 @@ use Rattle.peeling.proofs.Counting.{passed_none, passed-more, passed-all, label-
 use Rattle.peeling.proofs.count_incoming.Goals as goal
 
 pub bounds-graph-0 : goal.bounds-graph-0
-bounds-graph-0 c = let shaped = c.requires.1.shaped in omega (arith, (shaped.node 0 shaped.nonempty).listed)
+bounds-graph-0 c = let shaped = c.requires.counted.shaped in omega (arith, (shaped.node 0 shaped.nonempty).listed)
 
 pub loop-v-init : goal.loop-v-init
-loop-v-init c = (search rules, passed_none _ c.requires.1)
+loop-v-init c = (search rules, passed_none _ c.requires.counted)
 
 pub label_at-requires : goal.label_at-requires
 label_at-requires c = (c.loop-v.invariant.1.counted.shaped, c.loop-v-test.true)
@@ -20,7 +20,7 @@ label_at-requires c = (c.loop-v.invariant.1.counted.shaped, c.loop-v-test.true)
 pub is_label_in_range-requires : goal.is_label_in_range-requires
 is_label_in_range-requires c = λ unranged.
     subst (λ (l : Label). l.lowest ≤ l.highest) (sym c.label_at.ensures)
-    (c.requires.0 unranged c.loop-v.v c.loop-v-test.true)
+    (c.requires.levels_ordered unranged c.loop-v.v c.loop-v-test.true)
 
 pub returns-then-not-is_label_in_range : goal.returns-then-not-is_label_in_range
 returns-then-not-is_label_in_range c =
@@ -29,7 +29,7 @@ returns-then-not-is_label_in_range c =
     (sym (ap (label_in_range c.args.n) c.label_at.ensures) ∙ sym tested.ensures ∙ not-true tested.result c.if-not-is_label_in_range.true)
 
 pub count_row-requires : goal.count_row-requires
-count_row-requires c = (c.loop-v-test.true, c.loop-v.invariant.1.counted)
+count_row-requires c = (record { v_bound = c.loop-v-test.true; counted = c.loop-v.invariant.1.counted })
 
 pub returns-then-not-count_row : goal.returns-then-not-count_row
 returns-then-not-count_row c =

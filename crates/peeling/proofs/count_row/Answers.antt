@@ -6,19 +6,19 @@ use Rattle.peeling.proofs.Counting.{row_listed, counting-start, counting-place, 
 use Rattle.peeling.proofs.count_row.Goals as goal
 
 pub bounds-graph-0 : goal.bounds-graph-0
-bounds-graph-0 c = omega (arith, row_listed c.requires.1 c.requires.0)
+bounds-graph-0 c = omega (arith, row_listed c.requires.counted c.requires.v_bound)
 
 pub bounds-graph-v : goal.bounds-graph-v
-bounds-graph-v c = row_listed c.requires.1 c.requires.0
+bounds-graph-v c = row_listed c.requires.counted c.requires.v_bound
 
 pub overflow_cast-end : goal.overflow_cast-end
 overflow_cast-end c = omega (arith, c.type_inv.graph (c.args.v + 2))
 
 pub links_from-k-requires : goal.links_from-k-requires
-links_from-k-requires c = omega (arith, row_listed c.requires.1 c.requires.0)
+links_from-k-requires c = omega (arith, row_listed c.requires.counted c.requires.v_bound)
 
 pub loop-k-init : goal.loop-k-init
-loop-k-init c = rw c.links_from-k.ensures (counting-start c.requires.1 c.requires.0)
+loop-k-init c = rw c.links_from-k.ensures (counting-start c.requires.counted c.requires.v_bound)
 
 pub offset_bounds-graph-k : goal.offset_bounds-graph-k
 offset_bounds-graph-k c = omega (arith, c.type_inv.graph (c.args.v + 2))

@@ -7,7 +7,7 @@ use borrow.Author.Rules.{rules}
 use Rattle.peeling.proofs.find_sources.Goals as goal
 
 pub loop-v-init : goal.loop-v-init
-loop-v-init c = (search rules, queued-none _ _ c.requires.1.1)
+loop-v-init c = (search rules, queued-none _ _ c.requires.incoming_len.1)
 
 pub offset_bounds-queue-count : goal.offset_bounds-queue-count
 offset_bounds-queue-count c =

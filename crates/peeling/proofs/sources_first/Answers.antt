@@ -8,13 +8,13 @@ use borrow.Author.Tests.{eqb-true, eqb-false}
 use Rattle.peeling.proofs.sources_first.Goals as goal
 
 pub bounds-graph-0 : goal.bounds-graph-0
-bounds-graph-0 c = sized c.requires.0
+bounds-graph-0 c = sized c.requires.sound
 
 pub find_sources-sources-requires : goal.find_sources-sources-requires
-find_sources-sources-requires c = (c.requires.1.small, (c.requires.1.long, search rules))
+find_sources-sources-requires c = (record { nodes_bound = c.requires.counted.small; incoming_len = (c.requires.counted.long, search rules) })
 
 pub loop-next-init : goal.loop-next-init
-loop-next-init c = peeling-start c.requires.0 c.requires.1 c.find_sources-sources.ensures
+loop-next-init c = peeling-start c.requires.sound c.requires.counted c.find_sources-sources.ensures
 
 pub offset_bounds-queue-next : goal.offset_bounds-queue-next
 offset_bounds-queue-next c = omega (arith, peeling-few c.loop-next.invariant, c.loop-next.invariant.small)

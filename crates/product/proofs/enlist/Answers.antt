@@ -6,17 +6,17 @@ use Rattle.product.proofs.enlist.Goals as goal
 pub returns-then-mark : goal.returns-then-mark
 returns-then-mark c =
     let pre = c.requires in
-    record { listed = λ h. enlist-old _ _ _ _ pre.0 pre.1 c.if-mark.true; full = λ h. absurd (omega (arith, pre.0.few)) }
+    record { listed = λ h. enlist-old _ _ _ _ pre.marked pre.pair_bound c.if-mark.true; full = λ h. absurd (omega (arith, pre.marked.few)) }
 
 pub returns-then-count-gt254 : goal.returns-then-count-gt254
 returns-then-count-gt254 c =
     let pre = c.requires in
-    record { listed = λ h. absurd (omega arith); full = λ h. (omega (arith, pre.0.few, c.if-count-gt254.true), c.if-mark.false) }
+    record { listed = λ h. absurd (omega arith); full = λ h. (omega (arith, pre.marked.few, c.if-count-gt254.true), c.if-mark.false) }
 
 pub returns : goal.returns
 returns c =
     let pre = c.requires in
     record {
-      listed = λ h. enlist-new _ _ _ _ pre.0 pre.1 c.if-mark.false (omega (arith, c.if-count-gt254.false));
+      listed = λ h. enlist-new _ _ _ _ pre.marked pre.pair_bound c.if-mark.false (omega (arith, c.if-count-gt254.false));
       full = λ h. absurd (omega (arith, c.if-count-gt254.false));
     }

@@ -6,23 +6,23 @@ use Rattle.reasons.proofs.Explaining.{rows-begin, rows_more, rows-explained}
 use Rattle.reasons.proofs.explain_links.Goals as goal
 
 pub keep_entered-requires : goal.keep_entered-requires
-keep_entered-requires c = c.requires.0 _ (length-replicate {A = ℕ} 255 0)
+keep_entered-requires c = c.requires.by_index _ (length-replicate {A = ℕ} 255 0)
 
 pub bounds-s-0 : goal.bounds-s-0
 bounds-s-0 c =
-    let ready = c.requires.0 (replicate 255 0) (length-replicate {A = ℕ} 255 0) in
+    let ready = c.requires.by_index (replicate 255 0) (length-replicate {A = ℕ} 255 0) in
     omega (arith, (node-known ready 0 ready.sound.shaped.nonempty).node.listed)
 
 pub overflow_cast-nodes : goal.overflow_cast-nodes
-overflow_cast-nodes c = let ready = c.requires.0 (replicate 255 0) (length-replicate {A = ℕ} 255 0) in omega (arith, ready.small)
+overflow_cast-nodes c = let ready = c.requires.by_index (replicate 255 0) (length-replicate {A = ℕ} 255 0) in omega (arith, ready.small)
 
 pub loop-v-init : goal.loop-v-init
-loop-v-init c = rows-begin (c.requires.0 _ c.keep_entered.ensures.long) c.requires.1.0 c.requires.1.1
+loop-v-init c = rows-begin (c.requires.by_index _ c.keep_entered.ensures.long) c.requires.copied.0 c.requires.copied.1
 
 pub explain_row-requires : goal.explain_row-requires
 explain_row-requires c =
     let turn = c.loop-v.invariant in
-    ((turn.ready, turn.copied, c.loop-v-test.true), turn.long)
+    (record { markable = (turn.ready, turn.copied, c.loop-v-test.true); reasons_len = turn.long })
 
 pub overflow_add-v : goal.overflow_add-v
 overflow_add-v c = omega (arith, c.loop-v.invariant.ready.small, c.loop-v-test.true)

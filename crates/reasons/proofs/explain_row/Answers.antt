@@ -7,25 +7,25 @@ use Rattle.reasons.proofs.Explaining.{explain-start, explain-room, explain-insid
 use Rattle.reasons.proofs.explain_row.Goals as goal
 
 pub overflow_add-s_end : goal.overflow_add-s_end
-overflow_add-s_end c = omega (arith, (node-known c.requires.0.0 _ c.requires.0.2).small)
+overflow_add-s_end c = omega (arith, (node-known c.requires.markable.0 _ c.requires.markable.2).small)
 
 pub offset_bounds-s-v : goal.offset_bounds-s-v
-offset_bounds-s-v c = omega (arith, (node-known c.requires.0.0 _ c.requires.0.2).small)
+offset_bounds-s-v c = omega (arith, (node-known c.requires.markable.0 _ c.requires.markable.2).small)
 
 pub bounds-s-v : goal.bounds-s-v
-bounds-s-v c = omega (arith, (node-known c.requires.0.0 _ c.requires.0.2).node.listed)
+bounds-s-v c = omega (arith, (node-known c.requires.markable.0 _ c.requires.markable.2).node.listed)
 
 pub overflow_cast-s_end : goal.overflow_cast-s_end
 overflow_cast-s_end c = omega (arith, c.type_inv.s (c.args.v + 2))
 
 pub overflow_add-j : goal.overflow_add-j
-overflow_add-j c = omega (arith, (node-known c.requires.0.0 _ c.requires.0.2).small)
+overflow_add-j c = omega (arith, (node-known c.requires.markable.0 _ c.requires.markable.2).small)
 
 pub offset_bounds-s-v-2 : goal.offset_bounds-s-v-2
-offset_bounds-s-v-2 c = omega (arith, (node-known c.requires.0.0 _ c.requires.0.2).small)
+offset_bounds-s-v-2 c = omega (arith, (node-known c.requires.markable.0 _ c.requires.markable.2).small)
 
 pub bounds-s-v-2 : goal.bounds-s-v-2
-bounds-s-v-2 c = omega (arith, (node-known c.requires.0.0 _ c.requires.0.2).node.listed)
+bounds-s-v-2 c = omega (arith, (node-known c.requires.markable.0 _ c.requires.markable.2).node.listed)
 
 pub overflow_cast-j : goal.overflow_cast-j
 overflow_cast-j c = omega (arith, c.type_inv.s (c.args.v + 1))
@@ -34,25 +34,25 @@ pub overflow_add-j-2 : goal.overflow_add-j-2
 overflow_add-j-2 c = omega (arith, c.type_inv.s (c.args.v + 1))
 
 pub overflow_add-end : goal.overflow_add-end
-overflow_add-end c = omega (arith, (node-known c.requires.0.0 _ c.requires.0.2).small)
+overflow_add-end c = omega (arith, (node-known c.requires.markable.0 _ c.requires.markable.2).small)
 
 pub offset_bounds-words-v : goal.offset_bounds-words-v
-offset_bounds-words-v c = omega (arith, (node-known c.requires.0.0 _ c.requires.0.2).small)
+offset_bounds-words-v c = omega (arith, (node-known c.requires.markable.0 _ c.requires.markable.2).small)
 
 pub bounds-words-v : goal.bounds-words-v
-bounds-words-v c = omega (arith, (c.requires.0.1.sound.shaped.node c.args.v (omega (arith, c.requires.0.1.sized, c.requires.0.2))).listed)
+bounds-words-v c = omega (arith, (c.requires.markable.1.sound.shaped.node c.args.v (omega (arith, c.requires.markable.1.sized, c.requires.markable.2))).listed)
 
 pub overflow_cast-end : goal.overflow_cast-end
 overflow_cast-end c = omega (arith, c.type_inv.words (c.args.v + 2))
 
 pub overflow_add-k : goal.overflow_add-k
-overflow_add-k c = omega (arith, (node-known c.requires.0.0 _ c.requires.0.2).small)
+overflow_add-k c = omega (arith, (node-known c.requires.markable.0 _ c.requires.markable.2).small)
 
 pub offset_bounds-words-v-2 : goal.offset_bounds-words-v-2
-offset_bounds-words-v-2 c = omega (arith, (node-known c.requires.0.0 _ c.requires.0.2).small)
+offset_bounds-words-v-2 c = omega (arith, (node-known c.requires.markable.0 _ c.requires.markable.2).small)
 
 pub bounds-words-v-2 : goal.bounds-words-v-2
-bounds-words-v-2 c = omega (arith, (c.requires.0.1.sound.shaped.node c.args.v (omega (arith, c.requires.0.1.sized, c.requires.0.2))).listed)
+bounds-words-v-2 c = omega (arith, (c.requires.markable.1.sound.shaped.node c.args.v (omega (arith, c.requires.markable.1.sized, c.requires.markable.2))).listed)
 
 pub overflow_cast-k : goal.overflow_cast-k
 overflow_cast-k c = omega (arith, c.type_inv.words (c.args.v + 1))
@@ -61,7 +61,7 @@ pub overflow_add-k-2 : goal.overflow_add-k-2
 overflow_add-k-2 c = omega (arith, c.type_inv.words (c.args.v + 1))
 
 pub loop-k-init : goal.loop-k-init
-loop-k-init c = explain-start c.requires.0.0 c.requires.0.1 c.requires.0.2 c.requires.1
+loop-k-init c = explain-start c.requires.markable.0 c.requires.markable.1 c.requires.markable.2 c.requires.reasons_len
 
 pub offset_bounds-words-k : goal.offset_bounds-words-k
 offset_bounds-words-k c = omega (arith, explain-room c.loop-k.invariant c.loop-k-test.true)

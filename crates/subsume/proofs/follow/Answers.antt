@@ -6,37 +6,37 @@ use Rattle.subsume.proofs.seek.Reads as seek-reads
 use Rattle.subsume.proofs.follow.Goals as goal
 
 pub links_from-k-requires : goal.links_from-k-requires
-links_from-k-requires c = let node = nodes c.requires.1.0 in omega (arith, node.listed)
+links_from-k-requires c = let node = nodes c.requires.recorded_2.0 in omega (arith, node.listed)
 
 pub overflow_add-g_end : goal.overflow_add-g_end
-overflow_add-g_end c = let node = nodes c.requires.1.0 in omega (arith, node.listed)
+overflow_add-g_end c = let node = nodes c.requires.recorded_2.0 in omega (arith, node.listed)
 
 pub offset_bounds-g-v : goal.offset_bounds-g-v
-offset_bounds-g-v c = let node = nodes c.requires.1.0 in omega (arith, node.listed)
+offset_bounds-g-v c = let node = nodes c.requires.recorded_2.0 in omega (arith, node.listed)
 
 pub bounds-g-v : goal.bounds-g-v
-bounds-g-v c = let node = nodes c.requires.1.0 in omega (arith, node.listed)
+bounds-g-v c = let node = nodes c.requires.recorded_2.0 in omega (arith, node.listed)
 
 pub overflow_cast-g_end : goal.overflow_cast-g_end
 overflow_cast-g_end c = omega (arith, c.type_inv.g (c.args.v + 2))
 
 pub links_from-j-requires : goal.links_from-j-requires
-links_from-j-requires c = let node = nodes c.requires.0 in omega (arith, node.listed)
+links_from-j-requires c = let node = nodes c.requires.recorded in omega (arith, node.listed)
 
 pub overflow_add-s_end : goal.overflow_add-s_end
-overflow_add-s_end c = let node = nodes c.requires.0 in omega (arith, node.listed)
+overflow_add-s_end c = let node = nodes c.requires.recorded in omega (arith, node.listed)
 
 pub offset_bounds-s-u : goal.offset_bounds-s-u
-offset_bounds-s-u c = let node = nodes c.requires.0 in omega (arith, node.listed)
+offset_bounds-s-u c = let node = nodes c.requires.recorded in omega (arith, node.listed)
 
 pub bounds-s-u : goal.bounds-s-u
-bounds-s-u c = let node = nodes c.requires.0 in omega (arith, node.listed)
+bounds-s-u c = let node = nodes c.requires.recorded in omega (arith, node.listed)
 
 pub overflow_cast-s_end : goal.overflow_cast-s_end
 overflow_cast-s_end c = omega (arith, c.type_inv.s (c.args.u + 2))
 
 pub loop-k-init : goal.loop-k-init
-loop-k-init c = rw (c.links_from-k.ensures, c.links_from-j.ensures) (following-start (spans c.requires.0.0 _ c.requires.0.1) (spans c.requires.1.0.0 _ c.requires.1.0.1) c.requires.1.1)
+loop-k-init c = rw (c.links_from-k.ensures, c.links_from-j.ensures) (following-start (spans c.requires.recorded.0 _ c.requires.recorded.1) (spans c.requires.recorded_2.0.sound _ c.requires.recorded_2.0.1) c.requires.recorded_2.1)
 
 pub offset_bounds-g-k : goal.offset_bounds-g-k
 offset_bounds-g-k c = omega (arith, c.loop-k.invariant.g-row.node.ended, c.loop-k-test.true)

@@ -72,7 +72,7 @@ loop-head-smaller c = omega (arith, c.loop-head.invariant.queued.counted, c.loop
 
 -- src/lib.rt:117:5
 pub loop-head-preserved : goal.loop-head-preserved
-loop-head-preserved c = searched-on c.loop-head.invariant c.loop-head-test.true (λ n. ap₂ (table_labels n _).le (sym c.label_at-a.ensures) (sym c.label_at-b.ensures) ∙ sym (c.is_label_below.ensures n) ∙ not-false _ c.if-not-is_label_below.false) (c.follow-count.ensures.goes (omega (arith, c.if-count-gt255.false)))
+loop-head-preserved c = searched-on c.loop-head.invariant c.loop-head-test.true (λ n. ap₂ (table_labels n _).le (sym c.label_at-a.ensures) (sym c.label_at-b.ensures) ∙ sym (c.is_label_below.ensures n) ∙ not-false _ ((record.value, record.out_after) { labels_over = c.if-not-is_label_below.false.value; by_index = c.if-not-is_label_below.false.out_after })) (c.follow-count.ensures.goes (omega (arith, c.if-count-gt255.false)))
 
 -- src/lib.rt:108:1
 pub returns : goal.returns

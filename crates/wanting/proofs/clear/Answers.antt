@@ -12,4 +12,4 @@ loop-v-preserved c = (search rules, filling-next c.loop-v.invariant.1 (search ru
 
 pub returns : goal.returns
 returns c =
-    (c.loop-v.invariant.1.long, λ v h. c.loop-v.invariant.1.each v (omega (arith, c.loop-v-test.false)))
+    (record { words_len = c.loop-v.invariant.1.long; by_index = λ v h. c.loop-v.invariant.1.each v (omega (arith, c.loop-v-test.false)) })

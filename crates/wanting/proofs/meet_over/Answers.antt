@@ -7,29 +7,29 @@ use Rattle.layout.proofs.label_at.Reads as label-at-reads
 use Rattle.wanting.proofs.meet_over.Goals as goal
 
 pub overflow_sub-n : goal.overflow_sub-n
-overflow_sub-n c = omega (arith, c.requires.0.0.two)
+overflow_sub-n c = omega (arith, c.requires.labels_over.0.two)
 
 pub offset_bounds-down-n : goal.offset_bounds-down-n
-offset_bounds-down-n c = omega (arith, c.requires.0.0.two, c.requires.0.0.few)
+offset_bounds-down-n c = omega (arith, c.requires.labels_over.0.two, c.requires.labels_over.0.few)
 
 pub bounds-down-n : goal.bounds-down-n
-bounds-down-n c = omega (arith, c.requires.0.0.two, c.requires.0.0.few)
+bounds-down-n c = omega (arith, c.requires.labels_over.0.two, c.requires.labels_over.0.few)
 
 pub clear-requires : goal.clear-requires
-clear-requires c = (c.requires.0.0.small, c.requires.0.1.types)
+clear-requires c = (c.requires.labels_over.0.small, c.requires.labels_over.1.types)
 
 pub bounds-g-0 : goal.bounds-g-0
 bounds-g-0 c =
-    let shaped = c.requires.0.0.sound.shaped in omega (arith, (shaped.node 0 shaped.nonempty).listed)
+    let shaped = c.requires.labels_over.0.sound.shaped in omega (arith, (shaped.node 0 shaped.nonempty).listed)
 
 pub overflow_cast-y : goal.overflow_cast-y
-overflow_cast-y c = omega (arith, c.requires.0.0.upper-small)
+overflow_cast-y c = omega (arith, c.requires.labels_over.0.upper-small)
 
 pub loop-y-init : goal.loop-y-init
 loop-y-init c =
-    let long = c.requires.0.1 in
-    met_start c.requires.0.0 (record { types = c.clear.ensures.0; lows = long.lows; highs = long.highs }) c.clear.ensures.1
-    c.requires.1.0 c.requires.1.1
+    let long = c.requires.labels_over.1 in
+    met_start c.requires.labels_over.0 (record { types = c.clear.ensures.words_len; lows = long.lows; highs = long.highs }) c.clear.ensures.by_index
+    c.requires.by_index.0 c.requires.by_index.1
 
 pub overflow_sub-y : goal.overflow_sub-y
 overflow_sub-y c = omega (arith, c.loop-y-test.true)

@@ -26,16 +26,16 @@ read_words-down-requires c =
 
 pub meet_over-requires : goal.meet_over-requires
 meet_over-requires c =
-    let asked = asked-labels c.requires.0 in (
-      (asked, record { types = length-replicate {A = ℕ} 255 0; lows = length-replicate {A = ℕ} 255 0; highs = length-replicate {A = ℕ} 255 255 }),
-      (λ v h. get_or-replicate {A = ℕ} 255 v 0 0 (omega (arith, asked.small)), λ v h. get_or-replicate {A = ℕ} 255 v 255 0 (omega (arith, asked.small))),
-    )
+    let asked = asked-labels c.requires.0 in (record {
+      labels_over = (asked, record { types = length-replicate {A = ℕ} 255 0; lows = length-replicate {A = ℕ} 255 0; highs = length-replicate {A = ℕ} 255 255 });
+      by_index = (λ v h. get_or-replicate {A = ℕ} 255 v 0 0 (omega (arith, asked.small)), λ v h. get_or-replicate {A = ℕ} 255 v 255 0 (omega (arith, asked.small)));
+    })
 
 pub loop-v-init : goal.loop-v-init
 loop-v-init c =
     let asked = c.requires in
     let words = c.read_words-down.ensures in
-    wants-start asked.0 asked.1 words (c.meet_over.ensures _ asked.0.ok words)
+    wants-start asked.value asked.by_index words (c.meet_over.ensures _ asked.value.ok words)
 
 pub label_at-p-requires : goal.label_at-p-requires
 label_at-p-requires c = (c.loop-v.invariant.shaped, c.loop-v-test.true)

@@ -40,4 +40,4 @@ returns c =
     let turn = c.loop-i in
     sym
     (rows-hold c.args.n c.args.down.now (held c.are_rows_set.ensures c.if-not-are_rows_set.false)
-    (λ k l. turn.invariant.1 k (omega arith)))
+    (λ k l. turn.invariant.left k (omega arith)))

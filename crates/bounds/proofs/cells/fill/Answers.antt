@@ -17,14 +17,14 @@ loop-a-preserved c =
     let turn = c.loop-a in
     let row = c.bound_row in (
       search rules,
-      ⊎_elim (λ w. w.1 ∙ sym (every-fails _ (turn.a + 1) turn.a (omega arith) (refuted row.ensures.0 w.0.taken)))
-          (λ w. w.1 ∙ all-kept _ turn.a _ turn.invariant.1 (held row.ensures.0 w.0.left))
+      ⊎_elim (λ w. w.1 ∙ sym (every-fails _ (turn.a + 1) turn.a (omega arith) (refuted row.ensures.found w.0.taken)))
+          (λ w. w.1 ∙ all-kept _ turn.a _ turn.invariant.1 (held row.ensures.found w.0.left))
           c.if-not-bound_row.branch,
-      next_row turn.a _ _ _ _ turn.invariant.2 row.ensures.1.0,
-      row.ensures.1.1,
+      next_row turn.a _ _ _ _ turn.invariant.2 row.ensures.row.0,
+      row.ensures.row.1,
     )
 
 pub returns : goal.returns
 returns c =
     let turn = c.loop-a in
-    fill_done c.args.n c.args.words.now turn.a _ _ _ (search rules) (search rules) turn.invariant.1 turn.invariant.2
+    (let all = fill_done c.args.n c.args.words.now turn.a _ _ _ (search rules) (search rules) turn.invariant.1 turn.invariant.2 in (record { all = all.0; rows = all.1 }))

@@ -38,7 +38,7 @@ returns-then-not-found c =
 
 pub loop-a-init : goal.loop-a-init
 loop-a-init c =
-    (search rules, c.requires.1, record { set = λ i l. absurd (not-suc-le-zero l); sought = λ i l. absurd (not-suc-le-zero l) })
+    (search rules, c.requires.sets_len, record { set = λ i l. absurd (not-suc-le-zero l); sought = λ i l. absurd (not-suc-le-zero l) })
 
 pub loop-a-preserved : goal.loop-a-preserved
 loop-a-preserved c =

@@ -13,15 +13,15 @@ returns-then-sets-n-eq0 c =
 
 pub returns-then-set-sets : goal.returns-then-set-sets
 returns-then-set-sets c =
-    join-left c.args.n c.args.sets.now c.args.cells.now c.args.a c.args.b c.if-sets-n-eq0.false c.requires.0.0 c.requires.0.1 c.requires.1.0 c.if-set-sets.true
+    join-left c.args.n c.args.sets.now c.args.cells.now c.args.a c.args.b c.if-sets-n-eq0.false c.requires.a_lt_n.0 c.requires.a_lt_n.1 c.requires.seekable.0 c.if-set-sets.true
 
 pub returns-then-set-sets-2 : goal.returns-then-set-sets-2
 returns-then-set-sets-2 c =
-    join-right c.args.n c.args.sets.now c.args.cells.now c.args.a c.args.b c.if-sets-n-eq0.false c.requires.0.0 c.requires.0.1 c.requires.1.0 c.if-set-sets-2.true
+    join-right c.args.n c.args.sets.now c.args.cells.now c.args.a c.args.b c.if-sets-n-eq0.false c.requires.a_lt_n.0 c.requires.a_lt_n.1 c.requires.seekable.0 c.if-set-sets-2.true
 
 pub above_all-requires : goal.above_all-requires
 above_all-requires c = union-member _ _ c.if-set-sets.false
 
 pub returns : goal.returns
 returns c =
-    join-sought c.args.n c.args.sets.now c.args.cells.now c.args.a c.args.b c.if-sets-n-eq0.false c.requires.0.0 c.requires.0.1 c.requires.1.0 _ _ c.requires.0.2 c.above_all.ensures c.find_set.ensures
+    join-sought c.args.n c.args.sets.now c.args.cells.now c.args.a c.args.b c.if-sets-n-eq0.false c.requires.a_lt_n.0 c.requires.a_lt_n.1 c.requires.seekable.0 _ _ c.requires.a_lt_n.2 c.above_all.ensures c.find_set.ensures

@@ -13,12 +13,12 @@ returns-then-sets-n-eq0 c =
 
 pub returns-then-set-sets : goal.returns-then-set-sets
 returns-then-set-sets c =
-    meet_left c.args.n c.args.sets.now c.args.cells.now c.args.a c.args.b c.if-sets-n-eq0.false c.requires.0.0 c.requires.0.1 c.requires.1.0 c.if-set-sets.true
+    meet_left c.args.n c.args.sets.now c.args.cells.now c.args.a c.args.b c.if-sets-n-eq0.false c.requires.a_lt_n.0 c.requires.a_lt_n.1 c.requires.seekable.0 c.if-set-sets.true
 
 pub returns-then-set-sets-2 : goal.returns-then-set-sets-2
 returns-then-set-sets-2 c =
-    meet_right c.args.n c.args.sets.now c.args.cells.now c.args.a c.args.b c.if-sets-n-eq0.false c.requires.0.0 c.requires.0.1 c.requires.1.0 c.if-set-sets-2.true
+    meet_right c.args.n c.args.sets.now c.args.cells.now c.args.a c.args.b c.if-sets-n-eq0.false c.requires.a_lt_n.0 c.requires.a_lt_n.1 c.requires.seekable.0 c.if-set-sets-2.true
 
 pub returns : goal.returns
 returns c =
-    meet-sought c.args.n c.args.sets.now c.args.cells.now c.args.a c.args.b c.if-sets-n-eq0.false c.requires.0.0 c.requires.0.1 c.requires.1.0 _ c.requires.0.2 c.find_set.ensures
+    meet-sought c.args.n c.args.sets.now c.args.cells.now c.args.a c.args.b c.if-sets-n-eq0.false c.requires.a_lt_n.0 c.requires.a_lt_n.1 c.requires.seekable.0 _ c.requires.a_lt_n.2 c.find_set.ensures

@@ -45,4 +45,4 @@ pub loop-up-preserved : goal.loop-up-preserved
 loop-up-preserved c = λ nodes forest h. climb-next (c.loop-up.invariant nodes forest h) c.loop-up-test.true
 
 pub returns : goal.returns
-returns c = ((climb-done (c.loop-up.invariant c.requires.0 c.requires.1 c.requires.2) c.loop-up-test.false).0, λ nodes forest h. (climb-done (c.loop-up.invariant nodes forest h) c.loop-up-test.false).1)
+returns c = (record { value = (climb-done (c.loop-up.invariant c.requires.0 c.requires.1 c.requires.2) c.loop-up-test.false).0; by_index = λ nodes forest h. (climb-done (c.loop-up.invariant nodes forest h) c.loop-up-test.false).1 })

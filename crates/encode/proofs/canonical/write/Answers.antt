@@ -14,7 +14,7 @@ returns-then-out-sizes c = sym (too_short (c.measure-sizes.ensures.fits c.if-siz
 pub encode-requires : goal.encode-requires
 encode-requires c =
     let fits = c.measure-sizes.ensures.fits c.if-sizes.false in
-    (fits.nodes, omega (arith, fits.length-is, c.if-out-sizes.false))
+    (record { visited = fits.nodes; visited_in_bounds = omega (arith, fits.length-is, c.if-out-sizes.false) })
 
 pub returns : goal.returns
 returns c =

@@ -11,24 +11,24 @@ returns-then-sizes c =
 
 pub returns-then-out-sizes : goal.returns-then-out-sizes
 returns-then-out-sizes c =
-    sym (marked-short (c.measure-sizes.ensures.fits c.if-sizes.false) c.args.out.now c.args.marks.now c.requires.1.0 c.requires.1.1 c.args.beside.now c.if-out-sizes.true)
+    sym (marked-short (c.measure-sizes.ensures.fits c.if-sizes.false) c.args.out.now c.args.marks.now c.requires.graph_len_bound.0 c.requires.graph_len_bound.1 c.args.beside.now c.if-out-sizes.true)
 
 pub returns-then-beside-sizes : goal.returns-then-beside-sizes
 returns-then-beside-sizes c =
-    sym (marked-narrow (c.measure-sizes.ensures.fits c.if-sizes.false) c.args.out.now c.args.marks.now c.requires.1.0 c.requires.1.1 c.args.beside.now c.if-out-sizes.false c.if-beside-sizes.true)
+    sym (marked-narrow (c.measure-sizes.ensures.fits c.if-sizes.false) c.args.out.now c.args.marks.now c.requires.graph_len_bound.0 c.requires.graph_len_bound.1 c.args.beside.now c.if-out-sizes.false c.if-beside-sizes.true)
 
 pub encode-requires : goal.encode-requires
 encode-requires c =
     let fits = c.measure-sizes.ensures.fits c.if-sizes.false in
-    (fits.nodes, omega (arith, fits.length-is, c.if-out-sizes.false))
+    (record { visited = fits.nodes; visited_in_bounds = omega (arith, fits.length-is, c.if-out-sizes.false) })
 
 pub put_marks-requires : goal.put_marks-requires
 put_marks-requires c =
     let fits = c.measure-sizes.ensures.fits c.if-sizes.false in
-    (fits.nodes, (c.requires.1, omega (arith, fits.links-are, c.if-beside-sizes.false)))
+    (fits.nodes, (c.requires.at_bound, omega (arith, fits.links-are, c.if-beside-sizes.false)))
 
 pub returns : goal.returns
 returns c =
     let sizes = c.measure-sizes in
     notes-by c.encode.ensures c.put_marks.ensures
-    (marked-whole (sizes.ensures.fits c.if-sizes.false) c.args.out.now c.args.marks.now c.requires.1.0 c.requires.1.1 c.args.beside.now c.if-out-sizes.false c.if-beside-sizes.false)
+    (marked-whole (sizes.ensures.fits c.if-sizes.false) c.args.out.now c.args.marks.now c.requires.graph_len_bound.0 c.requires.graph_len_bound.1 c.args.beside.now c.if-out-sizes.false c.if-beside-sizes.false)

@@ -6,7 +6,7 @@ use Rattle.encode.proofs.marks.put_marks.Goals as goal
 
 pub loop-i-init : goal.loop-i-init
 loop-i-init c =
-    marks-start c.args.graph.now c.args.marks.now c.requires.0 c.requires.1.0.0 c.requires.1.0.1 c.requires.1.1
+    marks-start c.args.graph.now c.args.marks.now c.requires.visited c.requires.graph_len_bound.0.0 c.requires.graph_len_bound.0.1 c.requires.graph_len_bound.1
 
 pub offset_bounds-visited-i : goal.offset_bounds-visited-i
 offset_bounds-visited-i c = omega (arith, c.loop-i.invariant.visited.few, c.loop-i-test.true)
@@ -33,7 +33,7 @@ loop-i-smaller c = omega (arith, c.loop-i-test.true)
 
 pub loop-i-preserved : goal.loop-i-preserved
 loop-i-preserved c =
-    marks-step c.args.graph.now c.args.marks.now c.loop-i.invariant c.loop-i-test.true c.put_row-at.ensures
+    marks-step c.args.graph.now c.args.marks.now c.loop-i.invariant c.loop-i-test.true (c.put_row-at.ensures.value, c.put_row-at.ensures.beside_after)
 
 pub shape_of-beside : goal.shape_of-beside
 shape_of-beside c = c.loop-i.invariant.length-is

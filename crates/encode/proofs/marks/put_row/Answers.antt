@@ -4,25 +4,25 @@ use Rattle.encode.proofs.MarkedRows.{turn-start, turn_step, turn-done}
 use Rattle.encode.proofs.marks.put_row.Goals as goal
 
 pub overflow_add-end : goal.overflow_add-end
-overflow_add-end c = omega (arith, c.requires.0.1, c.requires.0.0.shaped.few)
+overflow_add-end c = omega (arith, c.requires.sound.1, c.requires.sound.0.shaped.few)
 
 pub offset_bounds-graph-v : goal.offset_bounds-graph-v
-offset_bounds-graph-v c = omega (arith, c.requires.0.1, c.requires.0.0.shaped.few)
+offset_bounds-graph-v c = omega (arith, c.requires.sound.1, c.requires.sound.0.shaped.few)
 
 pub bounds-graph-v : goal.bounds-graph-v
-bounds-graph-v c = (c.requires.0.0.shaped.node c.args.v c.requires.0.1).listed
+bounds-graph-v c = (c.requires.sound.0.shaped.node c.args.v c.requires.sound.1).listed
 
 pub overflow_cast-end : goal.overflow_cast-end
 overflow_cast-end c = omega (arith, c.type_inv.graph (c.args.v + 2))
 
 pub overflow_add-k : goal.overflow_add-k
-overflow_add-k c = omega (arith, c.requires.0.1, c.requires.0.0.shaped.few)
+overflow_add-k c = omega (arith, c.requires.sound.1, c.requires.sound.0.shaped.few)
 
 pub offset_bounds-graph-v-2 : goal.offset_bounds-graph-v-2
-offset_bounds-graph-v-2 c = omega (arith, c.requires.0.1, c.requires.0.0.shaped.few)
+offset_bounds-graph-v-2 c = omega (arith, c.requires.sound.1, c.requires.sound.0.shaped.few)
 
 pub bounds-graph-v-2 : goal.bounds-graph-v-2
-bounds-graph-v-2 c = omega (arith, (c.requires.0.0.shaped.node c.args.v c.requires.0.1).listed)
+bounds-graph-v-2 c = omega (arith, (c.requires.sound.0.shaped.node c.args.v c.requires.sound.1).listed)
 
 pub overflow_cast-k : goal.overflow_cast-k
 overflow_cast-k c = omega (arith, c.type_inv.graph (c.args.v + 1))
@@ -32,9 +32,9 @@ overflow_add-k-2 c = omega (arith, c.type_inv.graph (c.args.v + 1))
 
 pub loop-k-init : goal.loop-k-init
 loop-k-init c =
-    let node = c.requires.0.0.shaped.node c.args.v c.requires.0.1 in (
+    let node = c.requires.sound.0.shaped.node c.args.v c.requires.sound.1 in (
       omega (arith, c.type_inv.graph (c.args.v + 2)),
-      turn-start node.begun (omega (arith, node.ended, c.requires.1.0.0)) c.requires.1.0.1 c.requires.1.1,
+      turn-start node.begun (omega (arith, node.ended, c.requires.graph_len_bound.0.0)) c.requires.graph_len_bound.0.1 c.requires.graph_len_bound.1,
     )
 
 pub bounds-marks-k : goal.bounds-marks-k
@@ -63,4 +63,4 @@ pub shape_of-beside : goal.shape_of-beside
 shape_of-beside c = c.loop-k.invariant.1.length-is
 
 pub returns : goal.returns
-returns c = turn-done c.loop-k.invariant.1 c.loop-k-test.false
+returns c = (let all = turn-done c.loop-k.invariant.1 c.loop-k-test.false in (record { value = all.0; beside_after = all.1 }))

@@ -4,8 +4,8 @@ use Rattle.engine.proofs.differing.of_read.Goals as goal
 
 pub difference-requires : goal.difference-requires
 difference-requires c =
-    let (one, other) = c.requires.1 c.in-Both.is in
-    (record { accepts = c.requires.0.0; general = one; specific = other; short = c.requires.0.2 }, c.requires.0.1, c.requires.0.3)
+    let (one, other) = c.requires.loaded c.in-Both.is in
+    (record { accepts = c.requires.table_value.0; general = one; specific = other; short = c.requires.table_value.2 }, c.requires.table_value.1, c.requires.table_value.3)
 
 pub returns-in-Refused : goal.returns-in-Refused
 returns-in-Refused c = λ x y reads.

@@ -7,13 +7,13 @@ use Rattle.engine.proofs.differing.read_numbered.Goals as goal
 
 pub read_both-verdict-requires : goal.read_both-verdict-requires
 read_both-verdict-requires c =
-    ((c.requires.0, optional-none c.args.n _ refl), (c.requires.1, c.requires.2))
+    (record { n_bound = (c.requires.0, optional-none c.args.n _ refl); roomy = (c.requires.1, c.requires.2) })
 
 pub renumber-requires : goal.renumber-requires
 renumber-requires c =
     let a = c.args in
     let (one, other) = both-loaded a.n a.table.now _ a.first.now a.second.now c.read_both-verdict.ensures c.in-Both.is in
-    (other.sound, omega (arith, c.requires.3))
+    (record { sound = other.sound; graph_in_bounds = omega (arith, c.requires.3) })
 
 pub returns-in-Refused : goal.returns-in-Refused
 returns-in-Refused c =

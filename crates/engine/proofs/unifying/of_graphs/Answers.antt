@@ -5,7 +5,7 @@ use Rattle.engine.proofs.unifying.of_graphs.Goals as goal
 pub unify-requires : goal.unify-requires
 unify-requires c =
     let ((t, held), (one, other)) = c.requires in
-    ready-to-combine held one other
+    (let all = ready-to-combine held one other in (all.0, all.1))
 
 pub returns : goal.returns
 returns c = λ t held.

@@ -11,7 +11,7 @@ loop-k-init c = (search rules, λ i low high. absurd (omega arith))
 
 pub is_kept-requires : goal.is_kept-requires
 is_kept-requires c =
-    ((c.requires.0.0, c.requires.0.1), (search rules, c.requires.1 c.loop-k.k c.loop-k.invariant.0 c.loop-k-test.true))
+    (record { marks_len = (c.requires.marks_len.0, c.requires.marks_len.1); k_in_bounds = (search rules, c.requires.by_index c.loop-k.k c.loop-k.invariant.0 c.loop-k-test.true) })
 
 pub returns-then-is_kept : goal.returns-then-is_kept
 returns-then-is_kept c =

@@ -59,7 +59,7 @@ loop-k-init c = row-start c.loop-v.v c.loop-v.invariant.1 c.loop-v-test.true c.l
 
 -- src/keep.rt:51:13
 pub keep_one-requires : goal.keep_one-requires
-keep_one-requires c = let row = c.loop-k.invariant in let place = row-place row c.loop-k-test.true in (((_, place.link), place.within, place.target), (row.ready.marks-long, row.entered-long, row.ready.keep-long))
+keep_one-requires c = let row = c.loop-k.invariant in let place = row-place row c.loop-k-test.true in (record { by_index = ((_, place.link), place.within, place.target); marks_len = (row.ready.marks-long, row.entered-long, row.ready.keep-long) })
 
 -- src/keep.rt:52:13
 pub overflow_add-k-in-loop-k : goal.overflow_add-k-in-loop-k

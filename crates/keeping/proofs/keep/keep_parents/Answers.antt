@@ -68,7 +68,7 @@ overflow_cast-end c = omega (arith, c.type_inv.s (get_or c.args.order.now c.loop
 
 -- src/keep.rt:129:12
 pub has_kept_link-requires : goal.has_kept_link-requires
-has_kept_link-requires c = let known = node-known c.loop-i.invariant.1 _ (order-inside c.loop-i.invariant.2.0 c.loop-i-test.true) in let ready = c.loop-i.invariant.1 in ((ready.marks-long, ready.keep-long, known.node.ended), λ k low high. known.within k (omega (arith, low, known.node.begun)) high)
+has_kept_link-requires c = let known = node-known c.loop-i.invariant.1 _ (order-inside c.loop-i.invariant.2.0 c.loop-i-test.true) in let ready = c.loop-i.invariant.1 in (record { marks_len = (ready.marks-long, ready.keep-long, known.node.ended); by_index = λ k low high. known.within k (omega (arith, low, known.node.begun)) high })
 
 -- src/keep.rt:130:13
 pub bounds-keep-v : goal.bounds-keep-v

@@ -9,15 +9,15 @@ use Rattle.keeping.proofs.rows.keep_row.Goals as goal
 
 -- src/rows.rt:23:17
 pub overflow_add-end : goal.overflow_add-end
-overflow_add-end c = let known = node-known c.requires.0.0 _ c.requires.0.1 in omega (arith, known.small)
+overflow_add-end c = let known = node-known c.requires.markable.0 _ c.requires.markable.1 in omega (arith, known.small)
 
 -- src/rows.rt:23:15
 pub offset_bounds-s-v : goal.offset_bounds-s-v
-offset_bounds-s-v c = let known = node-known c.requires.0.0 _ c.requires.0.1 in omega (arith, known.small)
+offset_bounds-s-v c = let known = node-known c.requires.markable.0 _ c.requires.markable.1 in omega (arith, known.small)
 
 -- src/rows.rt:23:15
 pub bounds-s-v : goal.bounds-s-v
-bounds-s-v c = let known = node-known c.requires.0.0 _ c.requires.0.1 in omega (arith, known.node.listed)
+bounds-s-v c = let known = node-known c.requires.markable.0 _ c.requires.markable.1 in omega (arith, known.node.listed)
 
 -- src/rows.rt:23:15
 pub overflow_cast-end : goal.overflow_cast-end
@@ -25,15 +25,15 @@ overflow_cast-end c = omega (arith, c.type_inv.s (c.args.v + 2))
 
 -- src/rows.rt:24:19
 pub overflow_add-k : goal.overflow_add-k
-overflow_add-k c = let known = node-known c.requires.0.0 _ c.requires.0.1 in omega (arith, known.small)
+overflow_add-k c = let known = node-known c.requires.markable.0 _ c.requires.markable.1 in omega (arith, known.small)
 
 -- src/rows.rt:24:17
 pub offset_bounds-s-v-2 : goal.offset_bounds-s-v-2
-offset_bounds-s-v-2 c = let known = node-known c.requires.0.0 _ c.requires.0.1 in omega (arith, known.small)
+offset_bounds-s-v-2 c = let known = node-known c.requires.markable.0 _ c.requires.markable.1 in omega (arith, known.small)
 
 -- src/rows.rt:24:17
 pub bounds-s-v-2 : goal.bounds-s-v-2
-bounds-s-v-2 c = let known = node-known c.requires.0.0 _ c.requires.0.1 in omega (arith, known.node.listed)
+bounds-s-v-2 c = let known = node-known c.requires.markable.0 _ c.requires.markable.1 in omega (arith, known.node.listed)
 
 -- src/rows.rt:24:17
 pub overflow_cast-k : goal.overflow_cast-k
@@ -45,11 +45,11 @@ overflow_add-k-2 c = omega (arith, c.type_inv.s (c.args.v + 1))
 
 -- src/rows.rt:26:5
 pub loop-k-init : goal.loop-k-init
-loop-k-init c = thin-start c.requires.0.0 c.requires.0.1 c.requires.1.0 c.requires.1.1
+loop-k-init c = thin-start c.requires.markable.0 c.requires.markable.1 c.requires.words_len.0 c.requires.words_len.1
 
 -- src/rows.rt:27:12
 pub is_kept-requires : goal.is_kept-requires
-is_kept-requires c = let place = place-known c.loop-k.invariant.ready c.loop-k.invariant.inside c.loop-k.invariant.low c.loop-k-test.true in let ready = c.loop-k.invariant.ready in ((ready.marks-long, ready.keep-long), (place.within, place.target))
+is_kept-requires c = let place = place-known c.loop-k.invariant.ready c.loop-k.invariant.inside c.loop-k.invariant.low c.loop-k-test.true in let ready = c.loop-k.invariant.ready in (record { marks_len = (ready.marks-long, ready.keep-long); k_in_bounds = (place.within, place.target) })
 
 -- src/rows.rt:28:27
 pub offset_bounds-s-k : goal.offset_bounds-s-k
@@ -85,7 +85,7 @@ loop-k-preserved c = ⊎_elim (λ w. thin-as w.2 w.3 (thin-more c.loop-k.invaria
 
 -- src/rows.rt:11:1
 pub shape_of-words : goal.shape_of-words
-shape_of-words c = c.loop-k.invariant.thinned.long ∙ sym c.requires.1.0
+shape_of-words c = c.loop-k.invariant.thinned.long ∙ sym c.requires.words_len.0
 
 pub returns : goal.returns
 returns c = thin-done c.loop-k.invariant c.loop-k-test.false

@@ -13,39 +13,39 @@ use Rattle.keeping.proofs.rows.kept_links.Goals as goal
 
 -- src/rows.rt:50:17
 pub bounds-s-0 : goal.bounds-s-0
-bounds-s-0 c = let node = node-known c.requires.0 0 c.requires.0.sound.shaped.nonempty in omega (arith, node.node.listed)
+bounds-s-0 c = let node = node-known c.requires.markable 0 c.requires.markable.sound.shaped.nonempty in omega (arith, node.node.listed)
 
 -- src/rows.rt:50:17
 pub overflow_cast-nodes : goal.overflow_cast-nodes
-overflow_cast-nodes c = omega (arith, c.requires.0.small)
+overflow_cast-nodes c = omega (arith, c.requires.markable.small)
 
 -- src/rows.rt:51:18
 pub bounds-s-1 : goal.bounds-s-1
-bounds-s-1 c = let node = node-known c.requires.0 0 c.requires.0.sound.shaped.nonempty in omega (arith, node.node.listed)
+bounds-s-1 c = let node = node-known c.requires.markable 0 c.requires.markable.sound.shaped.nonempty in omega (arith, node.node.listed)
 
 -- src/rows.rt:51:18
 pub overflow_cast-at : goal.overflow_cast-at
-overflow_cast-at c = let node = node-known c.requires.0 0 c.requires.0.sound.shaped.nonempty in omega (arith, node.node.begun, node.ended)
+overflow_cast-at c = let node = node-known c.requires.markable 0 c.requires.markable.sound.shaped.nonempty in omega (arith, node.node.begun, node.ended)
 
 -- src/rows.rt:52:16
 pub overflow_cast-words : goal.overflow_cast-words
-overflow_cast-words c = omega (arith, c.requires.0.small)
+overflow_cast-words c = omega (arith, c.requires.markable.small)
 
 -- src/rows.rt:52:5
 pub bounds-words-0 : goal.bounds-words-0
-bounds-words-0 c = omega (arith, (node-known c.requires.0 0 c.requires.0.sound.shaped.nonempty).node.listed, c.requires.1.1)
+bounds-words-0 c = omega (arith, (node-known c.requires.markable 0 c.requires.markable.sound.shaped.nonempty).node.listed, c.requires.labels_len.1)
 
 -- src/rows.rt:53:16
 pub overflow_cast-words-2 : goal.overflow_cast-words-2
-overflow_cast-words-2 c = let node = node-known c.requires.0 0 c.requires.0.sound.shaped.nonempty in omega (arith, node.node.begun, node.ended)
+overflow_cast-words-2 c = let node = node-known c.requires.markable 0 c.requires.markable.sound.shaped.nonempty in omega (arith, node.node.begun, node.ended)
 
 -- src/rows.rt:53:5
 pub bounds-words-1 : goal.bounds-words-1
-bounds-words-1 c = simp length-set (omega (arith, (node-known c.requires.0 0 c.requires.0.sound.shaped.nonempty).node.listed, c.requires.1.1))
+bounds-words-1 c = simp length-set (omega (arith, (node-known c.requires.markable 0 c.requires.markable.sound.shaped.nonempty).node.listed, c.requires.labels_len.1))
 
 -- src/rows.rt:55:5
 pub loop-v-init : goal.loop-v-init
-loop-v-init c = (omega arith, c.requires.0, rows_start c.args.words.now c.requires.0 c.requires.1.1)
+loop-v-init c = (omega arith, c.requires.markable, rows_start c.args.words.now c.requires.markable c.requires.labels_len.1)
 
 -- src/rows.rt:56:65
 pub overflow_mul-v : goal.overflow_mul-v
@@ -57,7 +57,7 @@ overflow_mul-v c =
 pub label_from-requires : goal.label_from-requires
 label_from-requires c =
     let turn = c.loop-v in
-    let start = c.requires.1.0 in
+    let start = c.requires.labels_len.0 in
     (omega (arith, start.0, (row-known c.loop-v.invariant.1 c.loop-v-test.true c.loop-v.invariant.2).small), start.1 turn.v c.loop-v-test.true)
 
 -- src/rows.rt:56:9
@@ -75,7 +75,7 @@ pub keep_row-at-requires : goal.keep_row-at-requires
 keep_row-at-requires c =
     let turn = c.loop-v in
     let known = row-known c.loop-v.invariant.1 c.loop-v-test.true c.loop-v.invariant.2 in
-    ((turn.invariant.1, c.loop-v-test.true), (ap length c.put_label.ensures ∙ length-put turn.words turn.at _ ∙ turn.invariant.2.long, known.before))
+    (record { markable = (turn.invariant.1, c.loop-v-test.true); words_len = (ap length c.put_label.ensures ∙ length-put turn.words turn.at _ ∙ turn.invariant.2.long, known.before) })
 
 -- src/rows.rt:58:24
 pub overflow_cast-words-in-loop-v : goal.overflow_cast-words-in-loop-v
@@ -119,7 +119,7 @@ loop-v-preserved c =
     (omega (arith, test), turn.invariant.1, rows_next turn.invariant.1 test turn.invariant.2 (c.put_label.ensures ∙ ap (put_label turn.words turn.at) c.label_from.ensures) c.keep_row-at.ensures)
 
 pub shape_of-words : goal.shape_of-words
-shape_of-words c = c.loop-v.invariant.2.long ∙ sym c.requires.1.1
+shape_of-words c = c.loop-v.invariant.2.long ∙ sym c.requires.labels_len.1
 
 pub returns : goal.returns
-returns c = rows-done c.loop-v.invariant.2 c.loop-v.invariant.0 c.loop-v-test.false
+returns c = rows-done c.loop-v.invariant.2 c.loop-v.invariant.numbers c.loop-v-test.false

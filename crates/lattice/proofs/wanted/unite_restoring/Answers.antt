@@ -29,4 +29,4 @@ pub returns : goal.returns
 returns c =
     let turn = c.loop-d in
     let start = c.args in
-    restoring-done start.down.now start.lower start.over turn.d turn.all turn.invariant.1 start.n (search rules) (search rules)
+    restoring-done start.down.now start.lower start.over turn.d turn.all turn.invariant.by_index start.n (search rules) (search rules)

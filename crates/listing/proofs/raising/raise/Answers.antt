@@ -39,9 +39,9 @@ returns-then-links1-middle c =
 
 pub raise_first-requires : goal.raise_first-requires
 raise_first-requires c =
-    let d = c.args.d in (
-      search rules,
-      stuck c.args.n c.args.features d.nodes d.type0 d.links0
+    let d = c.args.d in (record {
+      n_nonzero = search rules;
+      links2_value = stuck c.args.n c.args.features d.nodes d.type0 d.links0
           d.type1 d.links1 d.type2 d.links2
           (omega (
             arith,
@@ -49,5 +49,5 @@ raise_first-requires c =
             c.last_span-last.ensures.1,
           ))
           (omega (arith, c.if-type2-types.false, c.type_span-types.ensures.1))
-          (omega (arith, c.if-links1-middle.false, c.middle_span-middle.ensures.1)),
-    )
+          (omega (arith, c.if-links1-middle.false, c.middle_span-middle.ensures.1));
+    })

@@ -12,7 +12,7 @@ returns-then-type1-types c =
     let d = c.args.d in
     ap {B = Option (List ℕ)} some c.from_links1-up.ensures ∙ sym
     (up-type1 c.args.n c.args.features d.nodes d.type0 d.links0
-    d.type1 d.links1 d.type2 d.links2 c.requires.1
+    d.type1 d.links1 d.type2 d.links2 c.requires.links2_value
     (omega (arith, c.if-type1-types.true, c.type_span-types.ensures.1)))
 
 pub returns-then-links0-root : goal.returns-then-links0-root
@@ -20,7 +20,7 @@ returns-then-links0-root c =
     let d = c.args.d in
     ap {B = Option (List ℕ)} some c.from_type1-up.ensures ∙ sym
     (up-links0 c.args.n c.args.features d.nodes d.type0 d.links0
-    d.type1 d.links1 d.type2 d.links2 c.requires.1
+    d.type1 d.links1 d.type2 d.links2 c.requires.links2_value
     (omega (arith, c.if-type1-types.false, c.type_span-types.ensures.1))
     (omega (arith, c.if-links0-root.true, c.root_span-root.ensures.1)))
 
@@ -29,7 +29,7 @@ returns-then-type0-n c =
     let d = c.args.d in
     ap {B = Option (List ℕ)} some c.from_links0-up.ensures ∙ sym
     (up-type0 c.args.n c.args.features d.nodes d.type0 d.links0
-    d.type1 d.links1 d.type2 d.links2 c.requires.1
+    d.type1 d.links1 d.type2 d.links2 c.requires.links2_value
     (omega (
       arith,
       c.if-type1-types.false,
@@ -42,7 +42,7 @@ returns-then-nodes-lt3 c =
     let d = c.args.d in
     ap {B = Option (List ℕ)} some c.from_links0-up-then-nodes-lt3.ensures ∙ sym
     (up-nodes c.args.n c.args.features d.nodes d.type0 d.links0
-    d.type1 d.links1 d.type2 d.links2 c.requires.1
+    d.type1 d.links1 d.type2 d.links2 c.requires.links2_value
     (omega (
       arith,
       c.if-type1-types.false,
@@ -55,7 +55,7 @@ pub returns : goal.returns
 returns c =
     let d = c.args.d in
     sym (at-end c.args.n c.args.features d.nodes d.type0 d.links0
-    d.type1 d.links1 d.type2 d.links2 c.requires.1
+    d.type1 d.links1 d.type2 d.links2 c.requires.links2_value
     (omega (
       arith,
       c.if-type1-types.false,

@@ -27,4 +27,4 @@ pub loop-c-preserved : goal.loop-c-preserved
 loop-c-preserved c = (cleared-step c.loop-c.invariant.0 c.requires.0 (omega (arith, c.loop-c-test.true, c.requires.2)) c.put_label.ensures, omega (arith, c.loop-c-test.true))
 
 pub returns : goal.returns
-returns c = let s = c.loop-c.invariant.0 in ((s.long, s.below), λ d h. s.tops d (omega (arith, c.loop-c-test.false)))
+returns c = let s = c.loop-c.invariant.0 in (record { labels_len = (s.long, s.below); by_index = λ d h. s.tops d (omega (arith, c.loop-c-test.false)) })

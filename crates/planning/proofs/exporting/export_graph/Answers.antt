@@ -6,7 +6,7 @@ use borrow.Author.Rules.{rules}
 use Rattle.planning.proofs.exporting.export_graph.Goals as goal
 
 pub renumber-requires : goal.renumber-requires
-renumber-requires c = (c.requires.0, c.requires.1)
+renumber-requires c = (record { sound = c.requires.0; graph_in_bounds = c.requires.1 })
 
 pub returns-then-not-renumber : goal.returns-then-not-renumber
 returns-then-not-renumber c = makes_none c.refuse.ensures.0 c.refuse.ensures.1 (λ rows l. export-large c.requires.0 c.renumber.ensures (not-true c.renumber.result c.if-not-renumber.true) rows c.args.nodes.now)

@@ -32,7 +32,7 @@ pub returns-then-not-place_rows : goal.returns-then-not-place_rows
 returns-then-not-place_rows c = import-twice c.args.n c.args.count (take c.args.count c.args.all) c.args.nodes.now c.args.out.now (sym c.is_sized.ensures ∙ not-false c.is_sized.result c.if-not-is_sized.false) (sym c.all_known.ensures ∙ not-false c.all_known.result c.if-not-all_known.false) (not-twice (has_twice (take c.args.count c.args.all)) c.place_rows.ensures.0 (not-true c.place_rows.result c.if-not-place_rows.true))
 
 pub import_placed-requires : goal.import_placed-requires
-import_placed-requires c = (c.requires, placeable c.args.nodes.now c.place_rows.new.1.1.0 c.args.all c.args.count (sym c.is_sized.ensures ∙ not-false c.is_sized.result c.if-not-is_sized.false) (search rules) (c.place_rows.ensures.1 (not-false c.place_rows.result c.if-not-place_rows.false)) c.place_rows.ensures.2)
+import_placed-requires c = (c.requires, placeable c.args.nodes.now c.place_rows.new.targets.1.0 c.args.all c.args.count (sym c.is_sized.ensures ∙ not-false c.is_sized.result c.if-not-is_sized.false) (search rules) (c.place_rows.ensures.1 (not-false c.place_rows.result c.if-not-place_rows.false)) c.place_rows.ensures.2)
 
 pub returns : goal.returns
-returns c = c.import_placed.ensures ∙ ap (λ (rows : List (Row Label)). rewritten (judged c.args.n (some rows)) c.args.out.now) (placed-table c.args.nodes.now c.place_rows.new.1.1.0 (take c.args.count c.args.all) (sized-parts c.args.nodes.now c.args.count (sym c.is_sized.ensures ∙ not-false c.is_sized.result c.if-not-is_sized.false)).1 (c.place_rows.ensures.1 (not-false c.place_rows.result c.if-not-place_rows.false))) ∙ sym (import-written c.args.n c.args.count (take c.args.count c.args.all) c.args.nodes.now c.args.out.now (sym c.is_sized.ensures ∙ not-false c.is_sized.result c.if-not-is_sized.false) (sym c.all_known.ensures ∙ not-false c.all_known.result c.if-not-all_known.false) (not-not (has_twice (take c.args.count c.args.all)) c.place_rows.ensures.0 (not-false c.place_rows.result c.if-not-place_rows.false)))
+returns c = c.import_placed.ensures ∙ ap (λ (rows : List (Row Label)). rewritten (judged c.args.n (some rows)) c.args.out.now) (placed-table c.args.nodes.now c.place_rows.new.targets.1.0 (take c.args.count c.args.all) (sized-parts c.args.nodes.now c.args.count (sym c.is_sized.ensures ∙ not-false c.is_sized.result c.if-not-is_sized.false)).1 (c.place_rows.ensures.1 (not-false c.place_rows.result c.if-not-place_rows.false))) ∙ sym (import-written c.args.n c.args.count (take c.args.count c.args.all) c.args.nodes.now c.args.out.now (sym c.is_sized.ensures ∙ not-false c.is_sized.result c.if-not-is_sized.false) (sym c.all_known.ensures ∙ not-false c.all_known.result c.if-not-all_known.false) (not-not (has_twice (take c.args.count c.args.all)) c.place_rows.ensures.0 (not-false c.place_rows.result c.if-not-place_rows.false)))

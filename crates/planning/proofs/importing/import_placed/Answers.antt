@@ -15,10 +15,10 @@ pub returns-then-not-are_stated : goal.returns-then-not-are_stated
 returns-then-not-are_stated c = unstated c.args.n c.args.nodes.now c.args.targets.now c.requires.0 (subst (Labelled c.args.nodes.now) (not-true c.are_stated.result c.if-not-are_stated.true) c.are_stated.ensures) c.args.out.now
 
 pub fill-requires : goal.fill-requires
-fill-requires c = (fillable c.args.n c.args.nodes.now c.args.targets.now c.requires.1 c.are_stated.ensures (not-false c.are_stated.result c.if-not-are_stated.false), search rules)
+fill-requires c = (record { fillable = fillable c.args.n c.args.nodes.now c.args.targets.now c.requires.1 c.are_stated.ensures (not-false c.are_stated.result c.if-not-are_stated.false); graph_len = search rules })
 
 pub judge-verdict-requires : goal.judge-verdict-requires
-judge-verdict-requires c = ((c.fill.ensures.shaped, c.fill.ensures.small), λ e. let z : ◌≡◌ {A = ℕ} 0 1 = cc in absurd (omega arith))
+judge-verdict-requires c = (record { shaped = (c.fill.ensures.shaped, c.fill.ensures.small); levels_ordered = λ e. let z : ◌≡◌ {A = ℕ} 0 1 = cc in absurd (omega arith) })
 
 pub of_graph-requires : goal.of_graph-requires
 of_graph-requires c = (told-accepted c.judge-verdict.ensures c.in-Accepted.is).holds.sound

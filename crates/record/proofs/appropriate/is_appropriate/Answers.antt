@@ -6,7 +6,7 @@ use Rattle.record.proofs.Allowed.{rows_none, rows_more, rows_all, rows_out}
 use Rattle.record.proofs.appropriate.is_appropriate.Goals as goal
 
 pub bounds-graph-0 : goal.bounds-graph-0
-bounds-graph-0 c = let shaped = c.requires.1.sound.shaped in omega (arith, (shaped.node 0 shaped.nonempty).listed)
+bounds-graph-0 c = let shaped = c.requires.typed.sound.shaped in omega (arith, (shaped.node 0 shaped.nonempty).listed)
 
 pub overflow_cast-nodes : goal.overflow_cast-nodes
 overflow_cast-nodes c = omega (arith, c.type_inv.graph 0)
@@ -15,7 +15,7 @@ pub loop-v-init : goal.loop-v-init
 loop-v-init c = rows_none
 
 pub is_row_appropriate-requires : goal.is_row_appropriate-requires
-is_row_appropriate-requires c = (c.requires.0, (c.requires.1, c.loop-v-test.true))
+is_row_appropriate-requires c = (record { listed = c.requires.listed; typed = (c.requires.typed, c.loop-v-test.true) })
 
 pub returns-then-not-is_row_appropriate : goal.returns-then-not-is_row_appropriate
 returns-then-not-is_row_appropriate c = rows_out c.args.table.now c.args.list.now c.args.graph.now c.loop-v.v c.loop-v-test.true (sym c.is_row_appropriate.ensures ∙ not-true c.is_row_appropriate.result c.if-not-is_row_appropriate.true)

@@ -6,19 +6,19 @@ use Rattle.record.proofs.Allowed.{row-start, row-kind, row-place, row-feature, r
 use Rattle.record.proofs.appropriate.is_row_appropriate.Goals as goal
 
 pub label_at-label-requires : goal.label_at-label-requires
-label_at-label-requires c = (c.requires.1.0.sound.shaped, c.requires.1.1)
+label_at-label-requires c = (c.requires.typed.0.sound.shaped, c.requires.typed.1)
 
 pub bounds-graph-v : goal.bounds-graph-v
-bounds-graph-v c = (c.requires.1.0.sound.shaped.node c.args.v c.requires.1.1).listed
+bounds-graph-v c = (c.requires.typed.0.sound.shaped.node c.args.v c.requires.typed.1).listed
 
 pub overflow_cast-end : goal.overflow_cast-end
 overflow_cast-end c = omega (arith, c.type_inv.graph (c.args.v + 2))
 
 pub links_from-k-requires : goal.links_from-k-requires
-links_from-k-requires c = omega (arith, (c.requires.1.0.sound.shaped.node c.args.v c.requires.1.1).listed)
+links_from-k-requires c = omega (arith, (c.requires.typed.0.sound.shaped.node c.args.v c.requires.typed.1).listed)
 
 pub loop-k-init : goal.loop-k-init
-loop-k-init c = rw c.links_from-k.ensures (row-start c.requires.0 c.requires.1.0 c.requires.1.1 (ap (λ l. l.type) c.label_at-label.ensures))
+loop-k-init c = rw c.links_from-k.ensures (row-start c.requires.listed c.requires.typed.0 c.requires.typed.1 (ap (λ l. l.type) c.label_at-label.ensures))
 
 pub offset_bounds-graph-k : goal.offset_bounds-graph-k
 offset_bounds-graph-k c = omega (arith, c.type_inv.graph (c.args.v + 2))

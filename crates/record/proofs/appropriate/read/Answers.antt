@@ -5,10 +5,10 @@ use Rattle.record.proofs.Allowed.{list-listed, reads-refused, reads-typed, reads
 use Rattle.record.proofs.appropriate.read.Goals as goal
 
 pub is_appropriate-requires : goal.is_appropriate-requires
-is_appropriate-requires c = (
-  list-listed c.args.n c.args.list.now c.requires.0.1 c.requires.0.0,
-  reads-typed c.args.n c.args.table.now c.args.list.now c.args.bytes.now c.read-verdict.ensures c.in-Accepted.is c.requires.0.0,
-)
+is_appropriate-requires c = (record {
+  listed = list-listed c.args.n c.args.list.now c.requires.n_bound.1 c.requires.n_bound.0;
+  typed = reads-typed c.args.n c.args.table.now c.args.list.now c.args.bytes.now c.read-verdict.ensures c.in-Accepted.is c.requires.n_bound.0;
+})
 
 pub returns-then-not-is_appropriate : goal.returns-then-not-is_appropriate
 returns-then-not-is_appropriate c = reads-inappropriate c.args.n c.args.table.now c.args.list.now c.args.bytes.now c.read-verdict.ensures c.in-Accepted.is (sym c.is_appropriate.ensures ∙ not-true c.is_appropriate.result c.if-not-is_appropriate.true)

@@ -4,16 +4,16 @@ use Rattle.rows.proofs.FilledRows.{filling-start, filling-room, next_low, fillin
 use Rattle.rows.proofs.filling.fill.Goals as goal
 
 pub overflow_add-at : goal.overflow_add-at
-overflow_add-at c = omega (arith, c.requires.0.few)
+overflow_add-at c = omega (arith, c.requires.fillable.few)
 
 pub overflow_cast-graph : goal.overflow_cast-graph
-overflow_cast-graph c = omega (arith, c.requires.0.few)
+overflow_cast-graph c = omega (arith, c.requires.fillable.few)
 
 pub bounds-graph-1 : goal.bounds-graph-1
-bounds-graph-1 c = omega (arith, c.requires.1)
+bounds-graph-1 c = omega (arith, c.requires.graph_len)
 
 pub loop-v-init : goal.loop-v-init
-loop-v-init c = filling-start c.args.graph.now c.requires.0 c.requires.1
+loop-v-init c = filling-start c.args.graph.now c.requires.fillable c.requires.graph_len
 
 pub fill_row-at-requires : goal.fill_row-at-requires
 fill_row-at-requires c = ((c.loop-v.invariant.fillable, c.loop-v-test.true), (filling-room c.loop-v.invariant c.loop-v-test.true, c.loop-v.invariant.long))

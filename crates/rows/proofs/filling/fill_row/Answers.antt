@@ -8,16 +8,16 @@ use Rattle.rows.proofs.FilledRows.{turn-start, turn-none, turn-some, turn-done, 
 use Rattle.rows.proofs.filling.fill_row.Goals as goal
 
 pub label_in-label-requires : goal.label_in-label-requires
-label_in-label-requires c = omega (arith, c.requires.0.1)
+label_in-label-requires c = omega (arith, c.requires.fillable.1)
 
 pub put_label-requires : goal.put_label-requires
-put_label-requires c = omega (arith, c.requires.1.0, c.requires.1.1)
+put_label-requires c = omega (arith, c.requires.v_bound.0, c.requires.v_bound.1)
 
 pub overflow_add-next : goal.overflow_add-next
-overflow_add-next c = omega (arith, c.requires.1.0)
+overflow_add-next c = omega (arith, c.requires.v_bound.0)
 
 pub loop-f-init : goal.loop-f-init
-loop-f-init c = turn-start c.args.graph.now c.requires.0.0 c.requires.0.1 c.requires.1.0 c.requires.1.1 (c.put_label.ensures ∙ ap (put_label c.args.graph.now c.args.at) c.label_in-label.ensures)
+loop-f-init c = turn-start c.args.graph.now c.requires.fillable.0 c.requires.fillable.1 c.requires.v_bound.0 c.requires.v_bound.1 (c.put_label.ensures ∙ ap (put_label c.args.graph.now c.args.at) c.label_in-label.ensures)
 
 pub overflow_mul-cell : goal.overflow_mul-cell
 overflow_mul-cell c = omega (arith, c.loop-f.invariant.inside, c.loop-f.invariant.fillable.few, c.loop-f.invariant.fillable.long, c.loop-f-test.true)

@@ -13,10 +13,10 @@ use Rattle.rows.proofs.placing.place.Reads as place-reads
 use Rattle.rows.proofs.placing.place_rows.Goals as goal
 
 pub loop-i-init : goal.loop-i-init
-loop-i-init c = (search rules, search rules, placed-start c.args.targets.now c.requires.1.1)
+loop-i-init c = (search rules, search rules, placed-start c.args.targets.now c.requires.all_near.1)
 
 pub place-requires : goal.place-requires
-place-requires c = (c.requires.1.0 c.loop-i.i (search rules), search rules)
+place-requires c = (c.requires.all_near.0 c.loop-i.i (search rules), search rules)
 
 pub returns-then-not-place : goal.returns-then-not-place
 returns-then-not-place c = (

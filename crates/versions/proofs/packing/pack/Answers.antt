@@ -67,7 +67,7 @@ pack_version-reply-requires c =
     ((start x).requires.0, (start x).requires.1, omega (arith, c.loop-version-test.true, c.loop-version.invariant.few), c.loop-version.invariant.near)
 
 pub shape_of-state-in_default : goal.shape_of-state-in_default
-shape_of-state-in_default c = c.pack_version-reply.ensures.0 ∙ kept c.before.before.before.before.before.before
+shape_of-state-in_default c = c.pack_version-reply.ensures.long ∙ kept c.before.before.before.before.before.before
 
 pub returns-in_default : goal.returns-in_default
 returns-in_default c =
@@ -85,7 +85,7 @@ overflow_add-version c = omega (arith, c.loop-version-test.true, c.loop-version.
 pub loop-version-preserved : goal.loop-version-preserved
 loop-version-preserved c =
     packing-step c.loop-version.invariant c.loop-version-test.true c.pack_version-reply.result _
-    c.pack_version-reply.ensures.1.1 c.pack_version-reply.ensures.0 c.pack_version-reply.ensures.1.0 _ c.in-Length.is
+    c.pack_version-reply.ensures.near.1 c.pack_version-reply.ensures.long c.pack_version-reply.ensures.near.0 _ c.in-Length.is
 
 pub shape_of-state-then-state-at : goal.shape_of-state-then-state-at
 shape_of-state-then-state-at c = kept c.before.before

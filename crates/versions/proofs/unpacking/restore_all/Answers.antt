@@ -14,7 +14,7 @@ pub end_at-end-requires : goal.end_at-end-requires
 end_at-end-requires c = c.loop-version.invariant.inside
 
 pub returns-then-end-eq0 : goal.returns-then-end-eq0
-returns-then-end-eq0 c = (c.loop-version.invariant.absent.slotted, restored-short c.loop-version.invariant c.loop-version-test.true c.if-left-eq1.true c.end_at-end.ensures c.if-end-eq0.true)
+returns-then-end-eq0 c = (record { slotted = c.loop-version.invariant.absent.slotted; differences_value = restored-short c.loop-version.invariant c.loop-version-test.true c.if-left-eq1.true c.end_at-end.ensures c.if-end-eq0.true })
 
 pub overflow_add-at : goal.overflow_add-at
 overflow_add-at c = omega (arith, c.end_at-end.ensures.whole c.if-end-eq0.false)
@@ -32,7 +32,7 @@ pub restore-requires : goal.restore-requires
 restore-requires c = (c.requires.0, c.loop-version.invariant.absent, c.loop-version-test.true)
 
 pub returns-then-not-restore : goal.returns-then-not-restore
-returns-then-not-restore c = (c.restore.ensures.slotted, restored-refused c.loop-version.invariant c.loop-version-test.true c.if-left-eq1.true c.end_at-end.ensures c.if-end-eq0.false c.restore.ensures (not-true c.restore.result c.if-not-restore.true))
+returns-then-not-restore c = (record { slotted = c.restore.ensures.slotted; differences_value = restored-refused c.loop-version.invariant c.loop-version-test.true c.if-left-eq1.true c.end_at-end.ensures c.if-end-eq0.false c.restore.ensures (not-true c.restore.result c.if-not-restore.true) })
 
 pub loop-version-smaller : goal.loop-version-smaller
 loop-version-smaller c = omega (arith, c.loop-version-test.true)
@@ -47,4 +47,4 @@ loop-version-preserved c =
     c.if-left-eq1.branch
 
 pub returns : goal.returns
-returns c = (c.loop-version.invariant.absent.slotted, restored-all c.loop-version.invariant c.loop-version-test.false)
+returns c = (record { slotted = c.loop-version.invariant.absent.slotted; differences_value = restored-all c.loop-version.invariant c.loop-version-test.false })

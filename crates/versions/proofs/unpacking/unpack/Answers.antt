@@ -42,4 +42,4 @@ returns-in-Refused c =
 pub returns-in-Accepted : goal.returns-in-Accepted
 returns-in-Accepted c =
     let a = c.args in
-    unpacks-all a.n a.table.now a.buffer.now c.requires.1 c.length_at-bits.ensures c.if-bits-eq0.false c.end_at-end.ensures c.if-end-eq0.false c.restore_all.ensures.0 c.restore_all.ensures.1
+    unpacks-all a.n a.table.now a.buffer.now c.requires.1 c.length_at-bits.ensures c.if-bits-eq0.false c.end_at-end.ensures c.if-end-eq0.false c.restore_all.ensures.slotted c.restore_all.ensures.differences_value

@@ -21,7 +21,7 @@ visit-requires c =
 pub returns : goal.returns
 returns c =
     let found = c.visit.ensures in (
-      numbered c.args.graph.now c.visit.new.1.0
-          c.visit.new.1.1.0 c.args.visited.now found,
+      numbered c.args.graph.now c.visit.new.1.numbered
+          c.visit.new.1.1.numbers c.args.visited.now found,
       (found.numbers-long, found.visited-long),
     )

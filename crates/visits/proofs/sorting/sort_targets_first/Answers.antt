@@ -19,7 +19,7 @@ pub returns-in-Back : goal.returns-in-Back
 returns-in-Back c = (record { sorts = looped-sorts (c.finish.ensures.looped c.in-Back.is); order_len_2 = c.finish.ensures.roomy })
 
 pub loop-v-preserved : goal.loop-v-preserved
-loop-v-preserved c = ⊎_elim (λ w. rw (w.7, w.8, w.9) (sweeping-down c.loop-v.invariant (omega arith) (w.3.ensures.counted _ w.5.given.1) (w.3.ensures.finished _ w.5.given.1))) (λ w. rw (w.1, w.2, w.3) (sweeping-over c.loop-v.invariant (omega arith) w.0.left)) c.if-colour-v-eq0.branch
+loop-v-preserved c = ⊎_elim (λ w. rw (w.7, w.8, w.9) (sweeping-down c.loop-v.invariant (omega arith) (w.3.ensures.counted _ w.5.given.1) (w.3.ensures.finished _ w.5.given.1))) (λ w. rw (w.1, w.2, w.3) (sweeping-over c.loop-v.invariant (omega arith) w.0.left)) (((c.if-colour-v-eq0.branch.value, c.if-colour-v-eq0.branch.out_after).value, (c.if-colour-v-eq0.branch.value, c.if-colour-v-eq0.branch.out_after).out_after).value, ((c.if-colour-v-eq0.branch.value, c.if-colour-v-eq0.branch.out_after).value, (c.if-colour-v-eq0.branch.value, c.if-colour-v-eq0.branch.out_after).out_after).out_after)
 
 pub returns : goal.returns
 returns c = (record { sorts = sweeping-sorts c.loop-v.invariant c.loop-v-test.false; order_len_2 = c.loop-v.invariant.placed.roomy })
