@@ -12,7 +12,7 @@ use borrow.Author.Rules.{rules}
 use Rattle.acceptance.proofs.judge.Goals as goal
 
 pub returns-then-not-are_rows_set : goal.returns-then-not-are_rows_set
-returns-then-not-are_rows_set c =
+returns-then-not-are_rows_set c t size words =
     answer-order c.args.n t c.args.down.now size words
     (rows-unset c.args.n c.args.down.now (refuted c.are_rows_set.ensures c.if-not-are_rows_set.true))
 
@@ -23,11 +23,11 @@ pub covers_of-found-requires : goal.covers_of-found-requires
 covers_of-found-requires c = (search rules, search rules, rows-owned _ _ (held c.are_rows_set.ensures c.if-not-are_rows_set.false))
 
 pub returns-then-not-found : goal.returns-then-not-found
-returns-then-not-found c =
+returns-then-not-found c t size words =
     let turn = c.loop-i in
     answer-order c.args.n t c.args.down.now size words
     (rows-fail c.args.n c.args.down.now turn.i (search rules)
-    (c.covers_of-found.ensures.no-stands (not-true _ c.if-not-found.true)))
+    (c.covers_of-found.ensures.no-stands c.if-not-found.true))
 
 pub loop-i-preserved : goal.loop-i-preserved
 loop-i-preserved c =
@@ -35,7 +35,7 @@ loop-i-preserved c =
     let n = c.args.n in
     let ws = c.args.down.now in
     let found = c.covers_of-found in
-    let ordered = subst (λ (b : Bool). CoversOf n ws turn.i b found.result.word) (not-false _ c.if-not-found.false) found.ensures in
+    let ordered = subst (λ (b : Bool). CoversOf n ws turn.i b found.result.word) c.if-not-found.false found.ensures in
     let next = Judging n ws (turn.i + 1) in (
       search rules,
       ⊎_elim
@@ -46,7 +46,7 @@ loop-i-preserved c =
     )
 
 pub returns : goal.returns
-returns c =
+returns c t size words =
     let turn = c.loop-i in
     let n = c.args.n in
     let ws = c.args.down.now in

@@ -23,14 +23,14 @@ shape_of-state-then-not-is_held c = c.is_held.ensures.long ∙ sym c.requires.1
 
 pub returns-then-not-is_held : goal.returns-then-not-is_held
 returns-then-not-is_held c =
-    not-held c.is_held.ensures (not-true _ c.if-not-is_held.true) _ c.args.state.now c.requires.1
+    not-held c.is_held.ensures c.if-not-is_held.true _ c.args.state.now c.requires.1
 
 pub shape_of-state-then-version-ge-VERSIONS : goal.shape_of-state-then-version-ge-VERSIONS
 shape_of-state-then-version-ge-VERSIONS c = c.is_held.ensures.long ∙ sym c.requires.1
 
 pub returns-then-version-ge-VERSIONS : goal.returns-then-version-ge-VERSIONS
 returns-then-version-ge-VERSIONS c =
-    drop-above c.is_held.ensures (not-false _ c.if-not-is_held.false) c.args.state.now c.requires.1 c.args.version c.if-version-ge-VERSIONS.true
+    drop-above c.is_held.ensures c.if-not-is_held.false c.args.state.now c.requires.1 c.args.version c.if-version-ge-VERSIONS.true
 
 pub slice_bounds-length_in-end : goal.slice_bounds-length_in-end
 slice_bounds-length_in-end c = sym c.is_held.ensures.slotted.long
@@ -43,7 +43,7 @@ shape_of-state-then-length_in-eq0 c = c.is_held.ensures.long ∙ sym c.requires.
 
 pub returns-then-length_in-eq0 : goal.returns-then-length_in-eq0
 returns-then-length_in-eq0 c =
-    drop-absent c.is_held.ensures (not-false _ c.if-not-is_held.false) c.args.state.now c.requires.1 c.args.version
+    drop-absent c.is_held.ensures c.if-not-is_held.false c.args.state.now c.requires.1 c.args.version
     (omega (arith, c.if-version-ge-VERSIONS.false)) (sym c.length_in.ensures.0 ∙ c.if-length_in-eq0.true)
 
 pub overflow_mul-version : goal.overflow_mul-version
@@ -67,7 +67,7 @@ pub go-requires : goal.go-requires
 go-requires c =
     let opens = c.is_held.ensures in
     let low : c.args.version < 16 = omega (arith, c.if-version-ge-VERSIONS.false) in
-    (c.requires.0, (clear-slot opens.slotted low c.put_length.ensures).0, opens.parted, wide opens (not-false _ c.if-not-is_held.false) c.args.state.now c.requires.1, omega (arith, opens.long, c.requires.2))
+    (c.requires.0, (clear-slot opens.slotted low c.put_length.ensures).0, opens.parted, wide opens c.if-not-is_held.false c.args.state.now c.requires.1, omega (arith, opens.long, c.requires.2))
 
 pub shape_of-state : goal.shape_of-state
 shape_of-state c = c.go.ensures.0 ∙ c.is_held.ensures.long ∙ sym c.requires.1
@@ -77,5 +77,5 @@ returns c =
     let opens = c.is_held.ensures in
     let low : c.args.version < 16 = omega (arith, c.if-version-ge-VERSIONS.false) in
     let went = c.go.ensures in
-    drop-goes opens (not-false _ c.if-not-is_held.false) c.args.state.now c.requires.1 c.args.version low
+    drop-goes opens c.if-not-is_held.false c.args.state.now c.requires.1 c.args.version low
     (λ e. c.if-length_in-eq0.false (c.length_in.ensures.0 ∙ e)) _ c.go.result (clear-slot opens.slotted low c.put_length.ensures).1 went.0 went.1.0 went.1.1.1.0

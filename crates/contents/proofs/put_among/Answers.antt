@@ -26,7 +26,7 @@ shape_of-state-then-not-is_held c = c.is_held.ensures.long ∙ sym c.requires.1
 
 pub returns-then-not-is_held : goal.returns-then-not-is_held
 returns-then-not-is_held c =
-    not-held c.is_held.ensures (not-true _ c.if-not-is_held.true) _ c.args.state.now c.requires.1
+    not-held c.is_held.ensures c.if-not-is_held.true _ c.args.state.now c.requires.1
 
 pub slice_bounds-write_program-end : goal.slice_bounds-write_program-end
 slice_bounds-write_program-end c = sym (length-replicate {A = ℕ} 4854 0)
@@ -43,7 +43,7 @@ shape_of-state-in_default c = c.is_held.ensures.long ∙ sym c.requires.1
 
 pub returns-in_default : goal.returns-in_default
 returns-in_default c =
-    put_refused c.is_held.ensures (not-false _ c.if-not-is_held.false) c.args.state.now c.requires.1 c.args.version c.args.bytes.now
+    put_refused c.is_held.ensures c.if-not-is_held.false c.args.state.now c.requires.1 c.args.version c.args.bytes.now
     c.write_program-reply.ensures (no_length c.write_program-reply.result c.in_default.keys2)
 
 pub shape_of-state-then-version-ge-VERSIONS : goal.shape_of-state-then-version-ge-VERSIONS
@@ -51,7 +51,7 @@ shape_of-state-then-version-ge-VERSIONS c = c.is_held.ensures.long ∙ sym c.req
 
 pub returns-then-version-ge-VERSIONS : goal.returns-then-version-ge-VERSIONS
 returns-then-version-ge-VERSIONS c =
-    put-above c.is_held.ensures (not-false _ c.if-not-is_held.false) c.args.state.now c.requires.1 c.args.version c.args.bytes.now
+    put-above c.is_held.ensures c.if-not-is_held.false c.args.state.now c.requires.1 c.args.version c.args.bytes.now
     c.write_program-reply.ensures _ c.in-Length.is c.if-version-ge-VERSIONS.true
 
 pub slice_bounds-length_in-end : goal.slice_bounds-length_in-end
@@ -65,7 +65,7 @@ shape_of-state-then-length_in-ne0 c = c.is_held.ensures.long ∙ sym c.requires.
 
 pub returns-then-length_in-ne0 : goal.returns-then-length_in-ne0
 returns-then-length_in-ne0 c =
-    put-present c.is_held.ensures (not-false _ c.if-not-is_held.false) c.args.state.now c.requires.1 c.args.version c.args.bytes.now
+    put-present c.is_held.ensures c.if-not-is_held.false c.args.state.now c.requires.1 c.args.version c.args.bytes.now
     c.write_program-reply.ensures _ c.in-Length.is (omega (arith, c.if-version-ge-VERSIONS.false)) (λ e. c.if-length_in-ne0.true (c.length_in.ensures.0 ∙ e))
 
 pub slice_bounds-is_none_from-end : goal.slice_bounds-is_none_from-end
@@ -99,7 +99,7 @@ pub step-requires : goal.step-requires
 step-requires c =
     let a = c.args in
     let opens = c.is_held.ensures in
-    let is_held = not-false _ c.if-not-is_held.false in
+    let is_held = c.if-not-is_held.false in
     let wrote = c.write_program-reply.ensures in
     let told = c.in-Length.is in
     let low : a.version < 16 = omega (arith, c.if-version-ge-VERSIONS.false) in
@@ -113,7 +113,7 @@ pub returns-then-last : goal.returns-then-last
 returns-then-last c =
     let a = c.args in
     let opens = c.is_held.ensures in
-    let is_held = not-false _ c.if-not-is_held.false in
+    let is_held = c.if-not-is_held.false in
     let wrote = c.write_program-reply.ensures in
     let told = c.in-Length.is in
     let low : a.version < 16 = omega (arith, c.if-version-ge-VERSIONS.false) in
@@ -131,7 +131,7 @@ pub go-requires : goal.go-requires
 go-requires c =
     let a = c.args in
     let opens = c.is_held.ensures in
-    let is_held = not-false _ c.if-not-is_held.false in
+    let is_held = c.if-not-is_held.false in
     let wrote = c.write_program-reply.ensures in
     let told = c.in-Length.is in
     let low : a.version < 16 = omega (arith, c.if-version-ge-VERSIONS.false) in
@@ -145,7 +145,7 @@ pub returns : goal.returns
 returns c =
     let a = c.args in
     let opens = c.is_held.ensures in
-    let is_held = not-false _ c.if-not-is_held.false in
+    let is_held = c.if-not-is_held.false in
     let wrote = c.write_program-reply.ensures in
     let told = c.in-Length.is in
     let low : a.version < 16 = omega (arith, c.if-version-ge-VERSIONS.false) in

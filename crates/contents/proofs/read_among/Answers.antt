@@ -27,10 +27,10 @@ is_held-requires c =
 
 pub returns-then-not-is_held : goal.returns-then-not-is_held
 returns-then-not-is_held c =
-    read-not-held c.is_held.ensures (not-true _ c.if-not-is_held.true) c.args.version c.args.out.now
+    read-not-held c.is_held.ensures c.if-not-is_held.true c.args.version c.args.out.now
 
 pub returns-then-version-ge-VERSIONS : goal.returns-then-version-ge-VERSIONS
-returns-then-version-ge-VERSIONS c = read_above c.is_held.ensures (not-false _ c.if-not-is_held.false) c.args.store.now refl c.args.version c.args.out.now c.if-version-ge-VERSIONS.true
+returns-then-version-ge-VERSIONS c = read_above c.is_held.ensures c.if-not-is_held.false c.args.store.now refl c.args.version c.args.out.now c.if-version-ge-VERSIONS.true
 
 pub slice_bounds-length_in-end : goal.slice_bounds-length_in-end
 slice_bounds-length_in-end c = sym c.is_held.ensures.slotted.long
@@ -39,12 +39,12 @@ pub length_in-length-requires : goal.length_in-length-requires
 length_in-length-requires c = (c.is_held.ensures.slotted, omega (arith, c.if-version-ge-VERSIONS.false))
 
 pub returns-then-length-eq0 : goal.returns-then-length-eq0
-returns-then-length-eq0 c = read-absent c.is_held.ensures (not-false _ c.if-not-is_held.false) c.args.store.now refl c.args.version c.args.out.now (omega (arith, c.if-version-ge-VERSIONS.false)) (sym c.length_in-length.ensures.0 ∙ c.if-length-eq0.true)
+returns-then-length-eq0 c = read-absent c.is_held.ensures c.if-not-is_held.false c.args.store.now refl c.args.version c.args.out.now (omega (arith, c.if-version-ge-VERSIONS.false)) (sym c.length_in-length.ensures.0 ∙ c.if-length-eq0.true)
 
 pub returns-then-out-length : goal.returns-then-out-length
 returns-then-out-length c =
     let there = c.length_in-length.ensures.0 in
-    read_short c.is_held.ensures (not-false _ c.if-not-is_held.false) c.args.store.now refl c.args.version c.args.out.now (omega (arith, c.if-version-ge-VERSIONS.false)) (λ e. c.if-length-eq0.false (there ∙ e)) (omega (arith, there, c.if-out-length.true))
+    read_short c.is_held.ensures c.if-not-is_held.false c.args.store.now refl c.args.version c.args.out.now (omega (arith, c.if-version-ge-VERSIONS.false)) (λ e. c.if-length-eq0.false (there ∙ e)) (omega (arith, there, c.if-out-length.true))
 
 pub overflow_mul-start : goal.overflow_mul-start
 overflow_mul-start c = omega (arith, c.if-version-ge-VERSIONS.false)
@@ -70,5 +70,5 @@ shape_of-out c = c.copy.auto.1.1.0
 pub returns : goal.returns
 returns c =
     let there = c.length_in-length.ensures.0 in
-    read-copied c.is_held.ensures (not-false _ c.if-not-is_held.false) c.args.store.now refl c.args.version c.args.out.now
+    read-copied c.is_held.ensures c.if-not-is_held.false c.args.store.now refl c.args.version c.args.out.now
     (omega (arith, c.if-version-ge-VERSIONS.false)) (λ e. c.if-length-eq0.false (there ∙ e)) c.length_in-length.result there c.if-out-length.false c.copy.ensures

@@ -21,7 +21,7 @@ wanted_labels-requires c =
 
 pub returns-then-not-wanted_labels : goal.returns-then-not-wanted_labels
 returns-then-not-wanted_labels c =
-    answers-unwanted c.args.options c.args.n c.args.table.now c.args.g.now c.args.s.now c.args.out.now c.args.reasons.now c.requires.comparable.0 (c.subsume-ordered.ensures c.args.n) c.in-Below.is c.wanted_labels.ensures (not-true _ c.if-not-wanted_labels.true)
+    answers-unwanted c.args.options c.args.n c.args.table.now c.args.g.now c.args.s.now c.args.out.now c.args.reasons.now c.requires.comparable.0 (c.subsume-ordered.ensures c.args.n) c.in-Below.is c.wanted_labels.ensures c.if-not-wanted_labels.true
 
 pub mark_links-requires : goal.mark_links-requires
 mark_links-requires c =
@@ -31,16 +31,16 @@ mark_links-requires c =
 pub make-requires : goal.make-requires
 make-requires c =
     let asked = asked-below c.args.n c.args.table.now c.args.g.now c.args.s.now c.requires.comparable.0 (c.subsume-ordered.ensures c.args.n) c.in-Below.is in
-    let given = prepared-below c.args.options.order c.args.n c.args.table.now c.args.g.now c.args.s.now asked c.wanted_labels.ensures (not-false _ c.if-not-wanted_labels.false) c.mark_links.ensures in
+    let given = prepared-below c.args.options.order c.args.n c.args.table.now c.args.g.now c.args.s.now asked c.wanted_labels.ensures c.if-not-wanted_labels.false c.mark_links.ensures in
     ((_, _, _, given), c.requires.g_len.0)
 
 pub write_rows-requires : goal.write_rows-requires
 write_rows-requires c =
     let asked = asked-below c.args.n c.args.table.now c.args.g.now c.args.s.now c.requires.comparable.0 (c.subsume-ordered.ensures c.args.n) c.in-Below.is in
-    let given = prepared-below c.args.options.order c.args.n c.args.table.now c.args.g.now c.args.s.now asked c.wanted_labels.ensures (not-false _ c.if-not-wanted_labels.false) c.mark_links.ensures in
+    let given = prepared-below c.args.options.order c.args.n c.args.table.now c.args.g.now c.args.s.now asked c.wanted_labels.ensures c.if-not-wanted_labels.false c.mark_links.ensures in
     (λ meeting h. markable-words asked given.marked.stands.long h, made-copied given c.make.ensures)
 
 pub returns : goal.returns
 returns c =
-    answers-written c.args.options c.args.n c.args.table.now c.args.g.now c.args.s.now c.args.out.now c.args.reasons.now c.requires.comparable.0 (c.subsume-ordered.ensures c.args.n) c.in-Below.is c.wanted_labels.ensures (not-false _ c.if-not-wanted_labels.false)
+    answers-written c.args.options c.args.n c.args.table.now c.args.g.now c.args.s.now c.args.out.now c.args.reasons.now c.requires.comparable.0 (c.subsume-ordered.ensures c.args.n) c.in-Below.is c.wanted_labels.ensures c.if-not-wanted_labels.false
     c.mark_links.ensures c.make.ensures c.write_rows.ensures

@@ -9,7 +9,7 @@ use Rattle.difference.proofs.write_rows.Goals as goal
 pub returns-then-not-explained : goal.returns-then-not-explained
 returns-then-not-explained c =
     let a = c.args in
-    plain-written a.out.now a.reasons.now (not-true _ c.if-not-explained.true) c.write.ensures c.reply_of.ensures
+    plain-written a.out.now a.reasons.now c.if-not-explained.true c.write.ensures c.reply_of.ensures
 
 pub write_marked-requires : goal.write_marked-requires
 write_marked-requires c =
@@ -20,4 +20,4 @@ write_marked-requires c =
 pub returns : goal.returns
 returns c =
     let a = c.args in
-    marked-written a.out.now a.reasons.now (not-false _ c.if-not-explained.false) c.explain_links.ensures c.write_marked.ensures c.marked_reply.ensures
+    marked-written a.out.now a.reasons.now c.if-not-explained.false c.explain_links.ensures c.write_marked.ensures c.marked_reply.ensures

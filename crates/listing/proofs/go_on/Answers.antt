@@ -21,7 +21,7 @@ pub is_record-requires : goal.is_record-requires
 is_record-requires c =
     let f = counts c.args.features c.is_count.ensures c.if-not-is_count.false in
     (run-written c.args.n c.args.features c.args.out.now c.requires.0 c.requires.1 f c.numbers_of-d.result
-    (c.are_within.ensures.0 (not-false _ c.if-not-are_within.false))).0
+    (c.are_within.ensures.0 c.if-not-are_within.false)).0
 
 pub returns-then-not-is_record : goal.returns-then-not-is_record
 returns-then-not-is_record c =
@@ -34,8 +34,8 @@ returns-then-not-is_record c =
 pub returns-then-not-raised : goal.returns-then-not-raised
 returns-then-not-raised c =
     let f = counts c.args.features c.is_count.ensures c.if-not-is_count.false in
-    let run = c.are_within.ensures.0 (not-false _ c.if-not-are_within.false) in
-    let same = c.is_record.ensures.0 (not-false _ c.if-not-is_record.false) in
+    let run = c.are_within.ensures.0 c.if-not-are_within.false in
+    let same = c.is_record.ensures.0 c.if-not-is_record.false in
     count_kept c.args.features c.is_count.ensures c.if-not-is_count.false c.args.out.now
     (ends c.args.n c.args.features c.args.out.now c.requires.0 c.requires.1 f c.args.bytes.now c.requires.2
     (number_list c.numbers_of-d.result) c.numbers_of-d.ensures run same
@@ -44,8 +44,8 @@ returns-then-not-raised c =
 pub write-requires : goal.write-requires
 write-requires c =
     let f = counts c.args.features c.is_count.ensures c.if-not-is_count.false in
-    let run = c.are_within.ensures.0 (not-false _ c.if-not-are_within.false) in
-    let same = c.is_record.ensures.0 (not-false _ c.if-not-is_record.false) in
+    let run = c.are_within.ensures.0 c.if-not-are_within.false in
+    let same = c.is_record.ensures.0 c.if-not-is_record.false in
     next-written c.args.n c.args.features c.args.out.now c.requires.0 c.requires.1 f c.args.bytes.now c.requires.2
     (number_list c.numbers_of-d.result) c.numbers_of-d.ensures run same c.raise-raised.result.numbers
     (sym c.raise-raised.ensures ∙ raised-to c.raise-raised.result c.if-not-raised.false)
@@ -53,8 +53,8 @@ write-requires c =
 pub returns : goal.returns
 returns c =
     let f = counts c.args.features c.is_count.ensures c.if-not-is_count.false in
-    let run = c.are_within.ensures.0 (not-false _ c.if-not-are_within.false) in
-    let same = c.is_record.ensures.0 (not-false _ c.if-not-is_record.false) in
+    let run = c.are_within.ensures.0 c.if-not-are_within.false in
+    let same = c.is_record.ensures.0 c.if-not-is_record.false in
     count_kept c.args.features c.is_count.ensures c.if-not-is_count.false c.args.out.now
     (c.write.ensures ∙ goes_on c.args.n c.args.features c.args.out.now c.requires.count_bound c.requires.all_near f
     c.args.bytes.now c.requires.2

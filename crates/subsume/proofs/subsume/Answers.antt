@@ -52,7 +52,7 @@ is_label_below-requires c = let node = next-node c.loop-head.invariant c.loop-he
 
 -- src/lib.rt:123:13
 pub returns-then-not-is_label_below : goal.returns-then-not-is_label_below
-returns-then-not-is_label_below c = λ n. order-label c.loop-head.invariant c.loop-head-test.true n (ap₂ (table_labels n _).le (sym c.label_at-a.ensures) (sym c.label_at-b.ensures) ∙ sym (c.is_label_below.ensures n) ∙ not-true _ c.if-not-is_label_below.true)
+returns-then-not-is_label_below c = λ n. order-label c.loop-head.invariant c.loop-head-test.true n (ap₂ (table_labels n _).le (sym c.label_at-a.ensures) (sym c.label_at-b.ensures) ∙ sym (c.is_label_below.ensures n) ∙ c.if-not-is_label_below.true)
 
 -- src/lib.rt:128:9
 pub follow-count-requires : goal.follow-count-requires

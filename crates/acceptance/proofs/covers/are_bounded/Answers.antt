@@ -21,7 +21,7 @@ returns-then-not-are_bounded_within c =
     let covers = c.covers_of-found.ensures.covers c.requires.1 in
     let inside = covered-inside c.args.n c.args.down.now turn.i _ (search rules) c.requires.1.sided covers in
     let told = c.are_bounded_within.ensures c.args.n c.requires.0 c.requires.1.sided inside in
-    sym (told.no-stands (not-true _ c.if-not-are_bounded_within.true))
+    sym (told.no-stands c.if-not-are_bounded_within.true)
 
 pub loop-i-preserved : goal.loop-i-preserved
 loop-i-preserved c =
@@ -31,7 +31,7 @@ loop-i-preserved c =
     let told = c.are_bounded_within.ensures c.args.n c.requires.0 c.requires.1.sided inside in (
       search rules,
       covers_more c.args.n c.args.down.now turn.i _ turn.invariant.1 covers
-          (subst (BoundsWithin c.args.n c.args.down.now _) (not-false _ c.if-not-are_bounded_within.false) told),
+          (subst (BoundsWithin c.args.n c.args.down.now _) c.if-not-are_bounded_within.false told),
     )
 
 pub returns : goal.returns

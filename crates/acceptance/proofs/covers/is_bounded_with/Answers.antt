@@ -13,7 +13,7 @@ pub loop-left-init : goal.loop-left-init
 loop-left-init c = λ n la few side in-n. tested-begin n c.args.down.now _ _
 
 pub returns-then-find_word-ge64 : goal.returns-then-find_word-ge64
-returns-then-find_word-ge64 c =
+returns-then-find_word-ge64 c n la few side in-n =
     let turn = c.loop-left in
     let bit = c.end_bit-b in
     let ws = c.args.down.now in
@@ -30,7 +30,7 @@ loop-left-smaller c =
     omega (arith, next, cleared-less turn.left bit.result bit.ensures.1)
 
 pub loop-left-preserved : goal.loop-left-preserved
-loop-left-preserved c =
+loop-left-preserved c n la few side in-n =
     let turn = c.loop-left in
     let bit = c.end_bit-b in
     let ws = c.args.down.now in
@@ -42,4 +42,4 @@ loop-left-preserved c =
     (sym told ∙ lt-ltb _ _ c.if-find_word-ge64.false))
 
 pub returns : goal.returns
-returns c = tested-end n _ _ _ _ c.loop-left-test.false (c.loop-left.invariant n la few side in-n)
+returns c n la few side in-n = tested-end n _ _ _ _ c.loop-left-test.false (c.loop-left.invariant n la few side in-n)

@@ -25,14 +25,14 @@ returns-then-not-found c =
     let turn = c.loop-i in
     sym
     (rows-fail c.args.n c.args.down.now turn.i (search rules)
-    (c.covers_of-found.ensures.no-stands (not-true _ c.if-not-found.true)))
+    (c.covers_of-found.ensures.no-stands c.if-not-found.true))
 
 pub loop-i-preserved : goal.loop-i-preserved
 loop-i-preserved c =
     let turn = c.loop-i in (
       search rules,
       below_more (Spanned c.args.down.now) turn.i turn.invariant.1
-          (c.covers_of-found.ensures.yes-stands (not-false _ c.if-not-found.false)),
+          (c.covers_of-found.ensures.yes-stands c.if-not-found.false),
     )
 
 pub returns : goal.returns

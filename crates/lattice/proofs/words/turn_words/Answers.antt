@@ -26,6 +26,6 @@ loop-j-preserved c =
     )
 
 pub returns : goal.returns
-returns c =
+returns c i l =
     let turn = c.loop-j in
     turn.invariant.2 i (omega (arith, c.requires)) ∙ ap (λ (k : ℕ). turned k c.args.words.now i) (omega (arith, turn.invariant.all, c.loop-j-test.false))
