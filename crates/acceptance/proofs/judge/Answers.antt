@@ -1,3 +1,5 @@
+use mathlib.Core.Path.{ap}
+use mathlib.Core.Bool.{not}
 use Prim.Native.Nat.{◌-◌, ◌+◌}
 use mathlib.Core.Path.{sym, subst, ◌∙◌}
 use mathlib.Core.Bool.{Bool, false}
@@ -14,20 +16,20 @@ use Rattle.acceptance.proofs.judge.Goals as goal
 pub returns-then-not-are_rows_set : goal.returns-then-not-are_rows_set
 returns-then-not-are_rows_set c t size words =
     answer-order c.args.n t c.args.down.now size words
-    (rows-unset c.args.n c.args.down.now (refuted c.are_rows_set.ensures c.if-not-are_rows_set.true))
+    (rows-unset c.args.n c.args.down.now (refuted c.are_rows_set.ensures (ap not c.if-not-are_rows_set.true)))
 
 pub loop-i-init : goal.loop-i-init
 loop-i-init c = (search rules, judge-begin _ _)
 
 pub covers_of-found-requires : goal.covers_of-found-requires
-covers_of-found-requires c = (search rules, search rules, rows-owned _ _ (held c.are_rows_set.ensures c.if-not-are_rows_set.false))
+covers_of-found-requires c = (search rules, search rules, rows-owned _ _ (held c.are_rows_set.ensures (ap not c.if-not-are_rows_set.false)))
 
 pub returns-then-not-found : goal.returns-then-not-found
 returns-then-not-found c t size words =
     let turn = c.loop-i in
     answer-order c.args.n t c.args.down.now size words
     (rows-fail c.args.n c.args.down.now turn.i (search rules)
-    (c.covers_of-found.ensures.no-stands c.if-not-found.true))
+    (c.covers_of-found.ensures.no-stands (ap not c.if-not-found.true)))
 
 pub loop-i-preserved : goal.loop-i-preserved
 loop-i-preserved c =
@@ -50,7 +52,7 @@ returns c t size words =
     let turn = c.loop-i in
     let n = c.args.n in
     let ws = c.args.down.now in
-    let set = held c.are_rows_set.ensures c.if-not-are_rows_set.false in
+    let set = held c.are_rows_set.ensures (ap not c.if-not-are_rows_set.false) in
     let passed = order-words size words (rows-hold n ws set (λ k l. turn.invariant.1.spans k (omega arith))) in
     c.bounded.ensures ∙
     answer-found n t ws passed false ws words _

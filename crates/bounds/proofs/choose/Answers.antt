@@ -1,4 +1,6 @@
 -- `choose` meets its contract: the table is refused, or the types are held as sets, or the cells are needed.
+use mathlib.Core.Path.{ap}
+use mathlib.Core.Bool.{not}
 use mathlib.Core.Path.{sym, ◌∙◌}
 use mathlib.Core.Bool.{false}
 use native.Mathlib.Omega.{arith}
@@ -12,38 +14,38 @@ use Rattle.bounds.proofs.choose.Goals as goal
 pub returns-then-not-is_sized : goal.returns-then-not-is_sized
 returns-then-not-is_sized c =
     let a = c.args in
-    chooses-refused a.up a.n a.table.now _ _ (answer-size a.n a.table.now (refuted c.is_sized.ensures c.if-not-is_sized.true))
+    chooses-refused a.up a.n a.table.now _ _ (answer-size a.n a.table.now (refuted c.is_sized.ensures (ap not c.if-not-is_sized.true)))
 
 pub read_words-down-requires : goal.read_words-down-requires
-read_words-down-requires c = (size-facts _ _ (held c.is_sized.ensures c.if-not-is_sized.false)).1
+read_words-down-requires c = (size-facts _ _ (held c.is_sized.ensures (ap not c.if-not-is_sized.false))).1
 
 pub is_ordered-requires : goal.is_ordered-requires
-is_ordered-requires c = (size-facts _ _ (held c.is_sized.ensures c.if-not-is_sized.false)).1
+is_ordered-requires c = (size-facts _ _ (held c.is_sized.ensures (ap not c.if-not-is_sized.false))).1
 
 pub returns-then-not-is_ordered : goal.returns-then-not-is_ordered
 returns-then-not-is_ordered c =
     let a = c.args in
     chooses-refused a.up a.n a.table.now _ _
-    (answer-order a.n a.table.now _ (held c.is_sized.ensures c.if-not-is_sized.false) c.read_words-down.ensures (refuted c.is_ordered.ensures c.if-not-is_ordered.true))
+    (answer-order a.n a.table.now _ (held c.is_sized.ensures (ap not c.if-not-is_sized.false)) c.read_words-down.ensures (refuted c.is_ordered.ensures c.if-not-is_ordered.true))
 
 pub hold-requires : goal.hold-requires
 hold-requires c =
     let a = c.args in
-    let passed = order-words (held c.is_sized.ensures c.if-not-is_sized.false) c.read_words-down.ensures (held c.is_ordered.ensures c.if-not-is_ordered.false) in
+    let passed = order-words (held c.is_sized.ensures (ap not c.if-not-is_sized.false)) c.read_words-down.ensures (held c.is_ordered.ensures c.if-not-is_ordered.false) in
     let size = table-size a.n a.table.now _ passed in
     ((omega (arith, size.0), size.1, side-sided a.n a.table.now _ passed false _ c.read_words-down.ensures), c.requires)
 
 pub returns-then-not-hold : goal.returns-then-not-hold
 returns-then-not-hold c =
     let a = c.args in
-    let passed = order-words (held c.is_sized.ensures c.if-not-is_sized.false) c.read_words-down.ensures (held c.is_ordered.ensures c.if-not-is_ordered.false) in
+    let passed = order-words (held c.is_sized.ensures (ap not c.if-not-is_sized.false)) c.read_words-down.ensures (held c.is_ordered.ensures c.if-not-is_ordered.false) in
     let other = not-true c.hold.result c.if-not-hold.true in
     chooses-cells a.up a.n a.table.now _ (cells-needed a.n a.table.now _ passed a.up _ (sym c.hold.ensures.0 ∙ other) (c.hold.ensures.1.1 other))
 
 pub are_bounded-requires : goal.are_bounded-requires
 are_bounded-requires c =
     let a = c.args in
-    let passed = order-words (held c.is_sized.ensures c.if-not-is_sized.false) c.read_words-down.ensures (held c.is_ordered.ensures c.if-not-is_ordered.false) in
+    let passed = order-words (held c.is_sized.ensures (ap not c.if-not-is_sized.false)) c.read_words-down.ensures (held c.is_ordered.ensures c.if-not-is_ordered.false) in
     ((table-size a.n a.table.now _ passed).1, lower-words a.n a.table.now _ passed)
 
 pub returns-then-not-are_bounded : goal.returns-then-not-are_bounded
@@ -56,7 +58,7 @@ returns-then-not-are_bounded c =
 pub returns : goal.returns
 returns c =
     let a = c.args in
-    let passed = order-words (held c.is_sized.ensures c.if-not-is_sized.false) c.read_words-down.ensures (held c.is_ordered.ensures c.if-not-is_ordered.false) in
+    let passed = order-words (held c.is_sized.ensures (ap not c.if-not-is_sized.false)) c.read_words-down.ensures (held c.is_ordered.ensures c.if-not-is_ordered.false) in
     let stands = not-false c.hold.result c.if-not-hold.false in
     chooses-sets a.up a.n a.table.now _
     (sets-held a.n a.table.now _ passed a.up _ (sym c.hold.ensures.res ∙ stands) (c.hold.ensures.left.0 stands)

@@ -1,4 +1,6 @@
 -- `go_on` meets its contract: it gives 23, 24, the end, or the record of the raised numbers.
+use mathlib.Core.Path.{ap}
+use mathlib.Core.Bool.{not}
 use mathlib.Core.Path.{sym, ◌∙◌}
 use borrow.Author.Tests.{not-false}
 use Rattle.listing.specs.Numbers.{number_list}
@@ -7,11 +9,11 @@ use Rattle.listing.proofs.go_on.Goals as goal
 
 pub returns-then-not-is_count : goal.returns-then-not-is_count
 returns-then-not-is_count c =
-    count-refused c.args.features c.is_count.ensures _ c.args.out.now c.if-not-is_count.true
+    count-refused c.args.features c.is_count.ensures _ c.args.out.now (ap not c.if-not-is_count.true)
 
 pub returns-then-not-are_within : goal.returns-then-not-are_within
 returns-then-not-are_within c =
-    let f = counts c.args.features c.is_count.ensures c.if-not-is_count.false in
+    let f = counts c.args.features c.is_count.ensures (ap not c.if-not-is_count.false) in
     count_kept c.args.features c.is_count.ensures c.if-not-is_count.false c.args.out.now
     (refused c.args.n c.args.features c.args.out.now c.requires.0 c.requires.1 f c.args.bytes.now c.requires.2
     (number_list c.numbers_of-d.result) c.numbers_of-d.ensures
@@ -19,13 +21,13 @@ returns-then-not-are_within c =
 
 pub is_record-requires : goal.is_record-requires
 is_record-requires c =
-    let f = counts c.args.features c.is_count.ensures c.if-not-is_count.false in
+    let f = counts c.args.features c.is_count.ensures (ap not c.if-not-is_count.false) in
     (run-written c.args.n c.args.features c.args.out.now c.requires.0 c.requires.1 f c.numbers_of-d.result
     (c.are_within.ensures.0 c.if-not-are_within.false)).0
 
 pub returns-then-not-is_record : goal.returns-then-not-is_record
 returns-then-not-is_record c =
-    let f = counts c.args.features c.is_count.ensures c.if-not-is_count.false in
+    let f = counts c.args.features c.is_count.ensures (ap not c.if-not-is_count.false) in
     count_kept c.args.features c.is_count.ensures c.if-not-is_count.false c.args.out.now
     (refused c.args.n c.args.features c.args.out.now c.requires.0 c.requires.1 f c.args.bytes.now c.requires.2
     (number_list c.numbers_of-d.result) c.numbers_of-d.ensures
@@ -33,7 +35,7 @@ returns-then-not-is_record c =
 
 pub returns-then-not-raised : goal.returns-then-not-raised
 returns-then-not-raised c =
-    let f = counts c.args.features c.is_count.ensures c.if-not-is_count.false in
+    let f = counts c.args.features c.is_count.ensures (ap not c.if-not-is_count.false) in
     let run = c.are_within.ensures.0 c.if-not-are_within.false in
     let same = c.is_record.ensures.0 c.if-not-is_record.false in
     count_kept c.args.features c.is_count.ensures c.if-not-is_count.false c.args.out.now
@@ -43,7 +45,7 @@ returns-then-not-raised c =
 
 pub write-requires : goal.write-requires
 write-requires c =
-    let f = counts c.args.features c.is_count.ensures c.if-not-is_count.false in
+    let f = counts c.args.features c.is_count.ensures (ap not c.if-not-is_count.false) in
     let run = c.are_within.ensures.0 c.if-not-are_within.false in
     let same = c.is_record.ensures.0 c.if-not-is_record.false in
     next-written c.args.n c.args.features c.args.out.now c.requires.0 c.requires.1 f c.args.bytes.now c.requires.2
@@ -52,7 +54,7 @@ write-requires c =
 
 pub returns : goal.returns
 returns c =
-    let f = counts c.args.features c.is_count.ensures c.if-not-is_count.false in
+    let f = counts c.args.features c.is_count.ensures (ap not c.if-not-is_count.false) in
     let run = c.are_within.ensures.0 c.if-not-are_within.false in
     let same = c.is_record.ensures.0 c.if-not-is_record.false in
     count_kept c.args.features c.is_count.ensures c.if-not-is_count.false c.args.out.now

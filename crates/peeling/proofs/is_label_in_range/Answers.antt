@@ -1,4 +1,6 @@
 -- `peeling::is_label_in_range` meets its contract, test by test.
+use mathlib.Core.Path.{ap}
+use mathlib.Core.Bool.{not}
 use mathlib.Core.Path.{sym, ◌∙◌}
 use native.Mathlib.Omega.{arith}
 use borrow.Author.Tests.{le-leb, not-true}
@@ -16,7 +18,7 @@ returns-then-n-kind c = over-out c.args.n (stated c.args.label) (omega (arith, c
 pub returns-then-not-ranged : goal.returns-then-not-ranged
 returns-then-not-ranged c =
     let l : Label = stated c.args.label in
-    c.if-not-ranged.true ∙ sym (le-leb l.lowest l.highest (c.requires (not-true c.args.ranged c.if-not-ranged.true))) ∙
+    c.if-not-ranged.true ∙ sym (le-leb l.lowest l.highest (c.requires (not-true c.args.ranged (ap not c.if-not-ranged.true)))) ∙
     levels-decide c.args.n l c.if-kind-eq0.false (omega (arith, c.if-n-kind.false)) (omega (arith, c.well_formed))
 
 pub returns-else-not-ranged : goal.returns-else-not-ranged

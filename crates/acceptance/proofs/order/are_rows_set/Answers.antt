@@ -1,3 +1,5 @@
+use mathlib.Core.Path.{ap}
+use mathlib.Core.Bool.{not}
 use Prim.Native.Nat.{◌-◌}
 use mathlib.Core.Path.{◌≡◌, sym}
 use mathlib.Core.Bool.{true}
@@ -28,7 +30,7 @@ returns-then-not-is_row_inside c =
     let turn = c.loop-i in
     sym
     (row-fails c.args.n c.args.down.now (search rules) turn.i (search rules)
-    (refuted c.is_row_inside.ensures c.if-not-is_row_inside.true))
+    (refuted c.is_row_inside.ensures (ap not c.if-not-is_row_inside.true)))
 
 pub loop-i-preserved : goal.loop-i-preserved
 loop-i-preserved c =
@@ -36,7 +38,7 @@ loop-i-preserved c =
     let ws = c.args.down.now in (
       search rules,
       below_more (λ k. row_inside (get_or ws (c.args.n - 1) 0) (get_or ws k 0) k ≡ true) turn.i turn.invariant.1
-          (held c.is_row_inside.ensures c.if-not-is_row_inside.false),
+          (held c.is_row_inside.ensures (ap not c.if-not-is_row_inside.false)),
     )
 
 pub returns : goal.returns

@@ -1,3 +1,5 @@
+use mathlib.Core.Path.{ap}
+use mathlib.Core.Bool.{not}
 use Prim.Native.Nat.{ℕ, ◌+◌, ◌-◌, ◌^◌, ◌<◌}
 use mathlib.Core.Path.{◌≡◌, sym, subst, ◌∙◌}
 use mathlib.Core.Bool.{true}
@@ -23,7 +25,7 @@ returns-then-not-is_prime c =
     let ws = c.args.down.now in
     let stands = sym c.is_irreducible-stands.ensures ∙ c.if-stands.true in
     finds-fault n ws turn.j _ (search rules) stands c.turn_word-up.ensures
-    (refuted {p = word_splits n ws _} c.is_prime.ensures c.if-not-is_prime.true)
+    (refuted {p = word_splits n ws _} c.is_prime.ensures (ap not c.if-not-is_prime.true))
 
 pub with_bit-types-requires : goal.with_bit-types-requires
 with_bit-types-requires c =

@@ -1,3 +1,4 @@
+use mathlib.Core.Bool.{not}
 use Prim.Native.Nat.{ℕ, ◌+◌, ◌-◌, ◌<◌}
 use mathlib.Core.Path.{◌≡◌, refl, sym, ap, subst, ◌∙◌}
 use mathlib.Core.Bool.{Bool, true, false}
@@ -46,7 +47,7 @@ loop-a-preserved c =
     let found = c.find_irreducibles-found in
     let n = c.args.n in
     let ws = c.args.down.now in
-    let primes = held refl c.if-not-found.false in
+    let primes = held refl (ap not c.if-not-found.false) in
     let value = ap (bit_and (get_or ws turn.a 0)) (found.ensures.types primes) in
     ⊎_elim
     (λ came.

@@ -1,4 +1,6 @@
 -- `rewrite_beside` meets its contract: the table is tested, then the list; then the record is rewritten.
+use mathlib.Core.Path.{ap}
+use mathlib.Core.Bool.{not}
 use mathlib.Core.Path.{sym, ◌∙◌}
 use mathlib.Core.Logic.{⊎_elim, inl, inr}
 use borrow.Author.Tests.{not-true, not-false}
@@ -16,7 +18,7 @@ returns-then-not-is_list_accepted c =
     let a = c.args in
     list-refused (beside-checked a.n a.table.now a.listed a.list.now a.out.now (rewritten (reading_beside a.n a.table.now a.list.now a.bytes.now) a.out.now))
     (sym c.accept-opened.ensures ∙ c.in-Accepted.is)
-    (test-failed a.listed (list_accepted a.n a.list.now) c.if-listed.true (sym c.is_list_accepted.ensures ∙ not-true c.is_list_accepted.result c.if-not-is_list_accepted.true))
+    (test-failed a.listed (list_accepted a.n a.list.now) c.if-listed.true (sym c.is_list_accepted.ensures ∙ not-true c.is_list_accepted.result (ap not c.if-not-is_list_accepted.true)))
 
 pub of_record-requires : goal.of_record-requires
 of_record-requires c =

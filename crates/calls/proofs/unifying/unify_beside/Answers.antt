@@ -1,4 +1,6 @@
 -- `unify_beside` meets its contract: the form is chosen and the list is tested; then the combination is written, by sets or by cells.
+use mathlib.Core.Path.{ap}
+use mathlib.Core.Bool.{not}
 use Prim.Native.Nat.{ℕ}
 use mathlib.Core.Path.{sym, ◌∙◌}
 use mathlib.Core.Bool.{false}
@@ -24,7 +26,7 @@ returns-then-not-is_list_accepted c =
     let a = c.args in
     list-refused (beside-checked a.n a.table.now a.listed a.list.now a.out.now (unified_beside a.n a.table.now a.list.now a.first.now a.second.now a.out.now))
     (accepted-opened a.n a.table.now (c.choose-form.ensures.as-sets c.in-AsSets.is).ok)
-    (test-failed a.listed (list_accepted a.n a.list.now) c.if-listed.true (sym c.is_list_accepted.ensures ∙ not-true c.is_list_accepted.result c.if-not-is_list_accepted.true))
+    (test-failed a.listed (list_accepted a.n a.list.now) c.if-listed.true (sym c.is_list_accepted.ensures ∙ not-true c.is_list_accepted.result (ap not c.if-not-is_list_accepted.true)))
 
 pub of_records-requires : goal.of_records-requires
 of_records-requires c =

@@ -1,4 +1,6 @@
 -- `unify_by_cells` meets its contract: the cells are filled and the list is tested; then the combination is written.
+use mathlib.Core.Path.{ap}
+use mathlib.Core.Bool.{not}
 use mathlib.Core.Path.{refl, sym, ◌∙◌}
 use mathlib.Core.Bool.{false}
 use mathlib.Core.Logic.{⊎_elim, inl, inr}
@@ -19,7 +21,7 @@ returns-then-not-is_list_accepted c =
     let a = c.args in
     list-refused (beside-checked a.n a.table.now a.listed a.list.now a.out.now (unified_beside a.n a.table.now a.list.now a.first.now a.second.now a.out.now))
     (sym c.fill-opened.ensures.answers ∙ c.in-Accepted.is)
-    (test-failed a.listed (list_accepted a.n a.list.now) c.if-listed.true (sym c.is_list_accepted.ensures ∙ not-true c.is_list_accepted.result c.if-not-is_list_accepted.true))
+    (test-failed a.listed (list_accepted a.n a.list.now) c.if-listed.true (sym c.is_list_accepted.ensures ∙ not-true c.is_list_accepted.result (ap not c.if-not-is_list_accepted.true)))
 
 pub slice_bounds-of_records-end : goal.slice_bounds-of_records-end
 slice_bounds-of_records-end c = sym c.fill-opened.ensures.long

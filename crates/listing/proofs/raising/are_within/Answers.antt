@@ -1,4 +1,6 @@
 -- `are_within` meets its contract: each number is tested against its span.
+use mathlib.Core.Path.{ap}
+use mathlib.Core.Bool.{not}
 use native.Mathlib.Omega.{arith}
 use Rattle.listed.proofs.Order.{false-true}
 use Rattle.listed.proofs.Within.{run-within, within-run}
@@ -12,30 +14,30 @@ pub returns-then-nodes-gt3 : goal.returns-then-nodes-gt3
 returns-then-nodes-gt3 c = (λ e. false-true e, λ r. absurd (omega (arith, c.if-nodes-gt3.true, (run-within r).nodes.1)))
 
 pub returns-then-not-is_within : goal.returns-then-not-is_within
-returns-then-not-is_within c = (λ e. false-true e, λ r. absurd (outside c.is_within.ensures c.type_span.ensures c.if-not-is_within.true (run-within r).type0))
+returns-then-not-is_within c = (λ e. false-true e, λ r. absurd (outside c.is_within.ensures c.type_span.ensures (ap not c.if-not-is_within.true) (run-within r).type0))
 
 pub returns-then-not-is_within-2 : goal.returns-then-not-is_within-2
-returns-then-not-is_within-2 c = (λ e. false-true e, λ r. absurd (outside c.is_within-2.ensures c.root_span.ensures c.if-not-is_within-2.true (run-within r).links0))
+returns-then-not-is_within-2 c = (λ e. false-true e, λ r. absurd (outside c.is_within-2.ensures c.root_span.ensures (ap not c.if-not-is_within-2.true) (run-within r).links0))
 
 pub returns-then-not-is_within-3 : goal.returns-then-not-is_within-3
-returns-then-not-is_within-3 c = (λ e. false-true e, λ r. absurd (outside c.is_within-3.ensures c.type_span-2.ensures c.if-not-is_within-3.true (run-within r).type1))
+returns-then-not-is_within-3 c = (λ e. false-true e, λ r. absurd (outside c.is_within-3.ensures c.type_span-2.ensures (ap not c.if-not-is_within-3.true) (run-within r).type1))
 
 pub returns-then-not-is_within-4 : goal.returns-then-not-is_within-4
-returns-then-not-is_within-4 c = (λ e. false-true e, λ r. absurd (outside c.is_within-4.ensures c.middle_span.ensures c.if-not-is_within-4.true (run-within r).links1))
+returns-then-not-is_within-4 c = (λ e. false-true e, λ r. absurd (outside c.is_within-4.ensures c.middle_span.ensures (ap not c.if-not-is_within-4.true) (run-within r).links1))
 
 pub returns-then-not-is_within-5 : goal.returns-then-not-is_within-5
-returns-then-not-is_within-5 c = (λ e. false-true e, λ r. absurd (outside c.is_within-5.ensures c.type_span-3.ensures c.if-not-is_within-5.true (run-within r).type2))
+returns-then-not-is_within-5 c = (λ e. false-true e, λ r. absurd (outside c.is_within-5.ensures c.type_span-3.ensures (ap not c.if-not-is_within-5.true) (run-within r).type2))
 
 pub returns : goal.returns
 returns c =
     (
       λ e. within-run (record {
         nodes = (omega (arith, c.if-nodes-eq0.false), omega (arith, c.if-nodes-gt3.false));
-        type0 = kept-inside c.is_within.ensures c.type_span.ensures c.if-not-is_within.false;
-        links0 = kept-inside c.is_within-2.ensures c.root_span.ensures c.if-not-is_within-2.false;
-        type1 = kept-inside c.is_within-3.ensures c.type_span-2.ensures c.if-not-is_within-3.false;
-        links1 = kept-inside c.is_within-4.ensures c.middle_span.ensures c.if-not-is_within-4.false;
-        type2 = kept-inside c.is_within-5.ensures c.type_span-3.ensures c.if-not-is_within-5.false;
+        type0 = kept-inside c.is_within.ensures c.type_span.ensures (ap not c.if-not-is_within.false;)
+        links0 = kept-inside c.is_within-2.ensures c.root_span.ensures (ap not c.if-not-is_within-2.false;)
+        type1 = kept-inside c.is_within-3.ensures c.type_span-2.ensures (ap not c.if-not-is_within-3.false;)
+        links1 = kept-inside c.is_within-4.ensures c.middle_span.ensures (ap not c.if-not-is_within-4.false;)
+        type2 = kept-inside c.is_within-5.ensures c.type_span-3.ensures (ap not c.if-not-is_within-5.false;)
         links2 = inside c.is_within-6.ensures c.last_span.ensures e;
       }),
       λ r. told-inside c.is_within-6.ensures c.last_span.ensures (run-within r).links2,

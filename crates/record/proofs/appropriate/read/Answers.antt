@@ -1,4 +1,6 @@
 -- `appropriate::read` meets its contract: the record is read, and its graph tested where it is accepted.
+use mathlib.Core.Path.{ap}
+use mathlib.Core.Bool.{not}
 use mathlib.Core.Path.{sym, ◌∙◌}
 use borrow.Author.Tests.{not-true, not-false}
 use Rattle.record.proofs.Allowed.{list-listed, reads-refused, reads-typed, reads-inappropriate, reads-appropriate}
@@ -11,10 +13,10 @@ is_appropriate-requires c = (record {
 })
 
 pub returns-then-not-is_appropriate : goal.returns-then-not-is_appropriate
-returns-then-not-is_appropriate c = reads-inappropriate c.args.n c.args.table.now c.args.list.now c.args.bytes.now c.read-verdict.ensures c.in-Accepted.is (sym c.is_appropriate.ensures ∙ not-true c.is_appropriate.result c.if-not-is_appropriate.true)
+returns-then-not-is_appropriate c = reads-inappropriate c.args.n c.args.table.now c.args.list.now c.args.bytes.now c.read-verdict.ensures c.in-Accepted.is (sym c.is_appropriate.ensures ∙ not-true c.is_appropriate.result (ap not c.if-not-is_appropriate.true))
 
 pub returns-in-Refused : goal.returns-in-Refused
 returns-in-Refused c = reads-refused c.args.n c.args.table.now c.args.list.now c.args.bytes.now c.read-verdict.ensures _ c.in-Refused.is
 
 pub returns-else-not-is_appropriate : goal.returns-else-not-is_appropriate
-returns-else-not-is_appropriate c = reads-appropriate c.args.n c.args.table.now c.args.list.now c.args.bytes.now c.read-verdict.ensures c.in-Accepted.is (sym c.is_appropriate.ensures ∙ not-false c.is_appropriate.result c.if-not-is_appropriate.false)
+returns-else-not-is_appropriate c = reads-appropriate c.args.n c.args.table.now c.args.list.now c.args.bytes.now c.read-verdict.ensures c.in-Accepted.is (sym c.is_appropriate.ensures ∙ not-false c.is_appropriate.result (ap not c.if-not-is_appropriate.false))

@@ -1,3 +1,5 @@
+use mathlib.Core.Path.{ap}
+use mathlib.Core.Bool.{not}
 use mathlib.Core.Logic.{⊎_elim}
 use native.Mathlib.Omega.{arith}
 use Prim.Native.Nat.{◌-◌}
@@ -32,7 +34,7 @@ pub restore-requires : goal.restore-requires
 restore-requires c = (c.requires.0, c.loop-version.invariant.absent, c.loop-version-test.true)
 
 pub returns-then-not-restore : goal.returns-then-not-restore
-returns-then-not-restore c = (record { slotted = c.restore.ensures.slotted; differences_value = restored-refused c.loop-version.invariant c.loop-version-test.true c.if-left-eq1.true c.end_at-end.ensures c.if-end-eq0.false c.restore.ensures (not-true c.restore.result c.if-not-restore.true) })
+returns-then-not-restore c = (record { slotted = c.restore.ensures.slotted; differences_value = restored-refused c.loop-version.invariant c.loop-version-test.true c.if-left-eq1.true c.end_at-end.ensures c.if-end-eq0.false c.restore.ensures (not-true c.restore.result (ap not c.if-not-restore.true)) })
 
 pub loop-version-smaller : goal.loop-version-smaller
 loop-version-smaller c = omega (arith, c.loop-version-test.true)
