@@ -12,7 +12,6 @@ use Rattle.layout.specs.Builder.{stated}
 use Rattle.layout.proofs.is_full.Goals as goal
 
 full-word : (l : Label) → l.highest ≤ 255 → eqb (l.lowest * levels + l.highest) 255 ≡ is_full l
-
 unfolding is_full
 full-word l h =
     same_test (eqb (l.lowest * levels + l.highest) 255) (eqb l.lowest 0 && eqb l.highest 255)
