@@ -3,7 +3,6 @@ use mathlib.Core.Bool.{not}
 use Prim.Native.Nat.{◌-◌, ◌+◌}
 use mathlib.Core.Path.{sym, subst, ◌∙◌}
 use mathlib.Core.Bool.{Bool, false}
-use mathlib.Core.Logic.{⊎_elim}
 use native.Mathlib.Omega.{arith}
 use borrow.Author.Tests.{not-true, not-false}
 use Rattle.lattice.specs.Words.{CoversOf}
@@ -11,6 +10,7 @@ use Rattle.lattice.proofs.Every.{refuted, held}
 use Rattle.acceptance.proofs.Acceptance.{answer-order, order-words, lower-words, answer-found}
 use Rattle.acceptance.proofs.Spanning.{Judging, judge-begin, judge-next, judge-kept, judge-end, rows-owned, rows-hold, rows-fail, rows-unset}
 use borrow.Author.Rules.{rules}
+use Rattle.acceptance.proofs.judge.Goals.{then-all, else-all}
 use Rattle.acceptance.proofs.judge.Goals as goal
 
 pub returns-then-not-are_rows_set : goal.returns-then-not-are_rows_set
@@ -29,7 +29,7 @@ returns-then-not-found c t size words =
     let turn = c.loop-i in
     answer-order c.args.n t c.args.down.now size words
     (rows-fail c.args.n c.args.down.now turn.i (search rules)
-    (c.covers_of-found.ensures.no-stands (ap not c.if-not-found.true)))
+    (c.covers_of-found.ensures.no-stands (not-true _ c.if-not-found.true)))
 
 pub loop-i-preserved : goal.loop-i-preserved
 loop-i-preserved c =
@@ -37,14 +37,13 @@ loop-i-preserved c =
     let n = c.args.n in
     let ws = c.args.down.now in
     let found = c.covers_of-found in
-    let ordered = subst (λ (b : Bool). CoversOf n ws turn.i b found.result.word) c.if-not-found.false found.ensures in
+    let ordered = subst (λ (b : Bool). CoversOf n ws turn.i b found.result.word) (not-false _ c.if-not-found.false) found.ensures in
     let next = Judging n ws (turn.i + 1) in (
       search rules,
-      ⊎_elim
-          (λ (test, call, new).
-          subst next (sym new) (judge-next n ws turn.invariant.1 ordered (search rules) c.requires test.taken (call.ensures n c.requires)))
-          (λ (test, new). subst next (sym new) (judge-kept n ws turn.invariant.1 ordered test.left))
-          c.if-all.branch,
+      elim c.if-all.branch [
+        then-all w ↦ subst next (sym w.all-is) (judge-next n ws turn.invariant.1 ordered (search rules) c.requires w.if-all.true (w.are_bounded_within-all.ensures n c.requires))
+      | else-all w ↦ subst next (sym w.all-is) (judge-kept n ws turn.invariant.1 ordered w.if-all.false)
+      ],
     )
 
 pub returns : goal.returns

@@ -7,8 +7,7 @@ use Rattle.house.specs.House.{under}
 use Rattle.house.proofs.byte_at.Given as goal
 
 -- the bits of byte k
-abbrev stands_at : ℕ → ℕ → Bool
-
+abbrev pub stands_at : ℕ → ℕ → Bool
 stands_at k j = under (8 * (k % 8) + j) (k / 8)
 
 abbrev pub invariant-loop-j : goal.invariant-loop-j

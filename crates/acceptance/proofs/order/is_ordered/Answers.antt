@@ -27,14 +27,14 @@ returns-then-not-found c =
     let turn = c.loop-i in
     sym
     (rows-fail c.args.n c.args.down.now turn.i (search rules)
-    (c.covers_of-found.ensures.no-stands (ap not c.if-not-found.true)))
+    (c.covers_of-found.ensures.no-stands (not-true _ c.if-not-found.true)))
 
 pub loop-i-preserved : goal.loop-i-preserved
 loop-i-preserved c =
     let turn = c.loop-i in (
       search rules,
       below_more (Spanned c.args.down.now) turn.i turn.invariant.1
-          (c.covers_of-found.ensures.yes-stands (ap not c.if-not-found.false)),
+          (c.covers_of-found.ensures.yes-stands (not-false _ c.if-not-found.false)),
     )
 
 pub returns : goal.returns
@@ -42,4 +42,4 @@ returns c =
     let turn = c.loop-i in
     sym
     (rows-hold c.args.n c.args.down.now (held c.are_rows_set.ensures (ap not c.if-not-are_rows_set.false))
-    (λ k l. turn.invariant.left k (omega arith)))
+    (λ k l. turn.invariant.1 k (omega arith)))

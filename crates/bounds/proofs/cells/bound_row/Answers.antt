@@ -1,6 +1,5 @@
 use Prim.Native.Nat.{◌+◌, ◌-◌}
 use mathlib.Core.Bool.{true, false}
-use mathlib.Core.Logic.{⊎_elim}
 use mathlib.Core.Path.{refl, sym, ◌∙◌}
 use native.Mathlib.Omega.{arith}
 use borrow.Author.Tests.{le-ltb, lt-ltb}
@@ -8,6 +7,7 @@ use Rattle.lattice.proofs.Every.{every-fails, all-kept, every-end}
 use Rattle.lattice.proofs.Rows.{holder-found}
 use Rattle.bounds.proofs.Columns.{filling-begins, filling-more, filling-ends, none-tested, is-tested}
 use borrow.Author.Rules.{rules}
+use Rattle.bounds.proofs.cells.bound_row.Goals.{then-c-ge64, else-c-ge64}
 use Rattle.bounds.proofs.cells.bound_row.Goals as goal
 
 pub loop-b-init : goal.loop-b-init
@@ -29,13 +29,14 @@ loop-b-preserved c =
       search rules,
       search rules,
       filling-more n ws turn.rows a turn.b _ c.requires.1 turn.invariant.0 (search rules) answer turn.invariant.2,
-      ⊎_elim
-          (λ w.
-          w.1 ∙
+      elim c.if-c-ge64.branch [
+        then-c-ge64 w ↦
+          w.found-is ∙
           sym (every-fails _ (turn.b + 1) turn.b (omega arith)
-          (is-tested a turn.b _ false turn.invariant.0 (sym told ∙ le-ltb _ _ w.0.taken))))
-          (λ w. w.1 ∙ all-kept _ turn.b _ turn.invariant.3 (is-tested a turn.b _ true turn.invariant.0 (sym told ∙ lt-ltb _ _ w.0.left)))
-          c.if-c-ge64.branch,
+          (is-tested a turn.b _ false turn.invariant.0 (sym told ∙ le-ltb _ _ w.if-c-ge64.true)))
+      | else-c-ge64 w ↦
+          w.found-is ∙ all-kept _ turn.b _ turn.invariant.3 (is-tested a turn.b _ true turn.invariant.0 (sym told ∙ lt-ltb _ _ w.if-c-ge64.false))
+      ],
     )
 
 pub returns : goal.returns
@@ -45,4 +46,4 @@ returns c =
     let done =
     filling-ends n c.args.words.now turn.rows c.args.a turn.b c.requires.1 c.requires.0 (search rules)
     (search rules) turn.invariant.2 in
-    (every-end _ turn.b n _ (search rules) (search rules) turn.invariant.3, done)
+    record { found = every-end _ turn.b n _ (search rules) (search rules) turn.invariant.3; row = done.0; columns = done.1 }

@@ -1,12 +1,13 @@
 use Prim.Native.Nat.{◌+◌, ◌-◌}
-use mathlib.Core.Logic.{⊎_elim}
-use mathlib.Core.Path.{sym, ◌∙◌}
+use mathlib.Core.Bool.{not}
+use mathlib.Core.Path.{sym, ap, ◌∙◌}
 use native.Mathlib.Omega.{arith}
 use Rattle.lattice.specs.Table.{bound_row}
 use Rattle.lattice.proofs.Every.{every-none, every-fails, all-kept, refuted, held}
 use Rattle.lattice.proofs.Rows.{overwrite-none, next_row}
 use Rattle.bounds.proofs.Columns.{columns-begin, fill_done}
 use borrow.Author.Rules.{rules}
+use Rattle.bounds.proofs.cells.fill.Goals.{then-not-bound_row, else-not-bound_row}
 use Rattle.bounds.proofs.cells.fill.Goals as goal
 
 pub loop-a-init : goal.loop-a-init
@@ -17,11 +18,13 @@ loop-a-preserved c =
     let turn = c.loop-a in
     let row = c.bound_row in (
       search rules,
-      ⊎_elim (λ w. w.1 ∙ sym (every-fails _ (turn.a + 1) turn.a (omega arith) (refuted row.ensures.found w.0.taken)))
-          (λ w. w.1 ∙ all-kept _ turn.a _ turn.invariant.1 (held row.ensures.found w.0.left))
-          c.if-not-bound_row.branch,
-      next_row turn.a _ _ _ _ turn.invariant.2 row.ensures.row.0,
-      row.ensures.row.1,
+      elim c.if-not-bound_row.branch [
+        then-not-bound_row w ↦
+          w.found-is ∙ sym (every-fails _ (turn.a + 1) turn.a (omega arith) (refuted row.ensures.found (ap not w.if-not-bound_row.true)))
+      | else-not-bound_row w ↦ w.found-is ∙ all-kept _ turn.a _ turn.invariant.1 (held row.ensures.found (ap not w.if-not-bound_row.false))
+      ],
+      next_row turn.a _ _ _ _ turn.invariant.2 row.ensures.row,
+      row.ensures.columns,
     )
 
 pub returns : goal.returns

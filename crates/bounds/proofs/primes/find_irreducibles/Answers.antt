@@ -4,7 +4,6 @@ use Prim.Native.Nat.{ℕ, ◌+◌, ◌-◌, ◌^◌, ◌<◌}
 use mathlib.Core.Path.{◌≡◌, sym, subst, ◌∙◌}
 use mathlib.Core.Bool.{true}
 use mathlib.Core.List.{List}
-use mathlib.Core.Logic.{⊎_elim}
 use native.Mathlib.Nat.{not-suc-le-zero}
 use lib.ListN.{length-replicate}
 use native.Mathlib.Omega.{arith}
@@ -13,6 +12,7 @@ use Rattle.lattice.proofs.Every.{refuted, held, every-none, every_more, every-do
 use Rattle.lattice.proofs.WordLaws.{word_none, word_below, next_word, word-done}
 use Rattle.bounds.proofs.Held.{Kept, kept_more, kept-past, prime-split, prime-past, finds-fault}
 use borrow.Author.Rules.{rules}
+use Rattle.bounds.proofs.primes.find_irreducibles.Goals.{then-stands+else-not-is_prime, else-stands}
 use Rattle.bounds.proofs.primes.find_irreducibles.Goals as goal
 
 pub loop-j-init : goal.loop-j-init
@@ -38,23 +38,22 @@ loop-j-preserved c =
     let n = c.args.n in
     let ws = c.args.down.now in
     let is = c.is_irreducible-stands.ensures in
-    ⊎_elim
-    (λ came.
-    let stands = sym is ∙ came.0.taken in
-    let splits = held {p = word_splits n ws _} came.2.ensures came.3.left in (
+    elim c.if-stands.branch [
+      then-stands+else-not-is_prime w ↦
+    let splits = held {p = word_splits n ws _} w.is_prime.ensures (ap not w.if-not-is_prime.false) in (
       search rules,
-      every_more (word_prime n ws) turn.j turn.invariant.1 (prime-split n ws turn.j _ came.1.ensures splits),
+      every_more (word_prime n ws) turn.j turn.invariant.1 (prime-split n ws turn.j _ w.turn_word-up.ensures splits),
       next_word (word_irreducible n ws) turn.j turn.types _ _ turn.invariant.2 is c.with_bit-types.ensures,
-      subst (λ (l : List ℕ). Kept n ws l (turn.j + 1)) (sym came.4) (kept_more turn.invariant.3 _ (search rules) came.1.ensures),
-    ))
-    (λ came.
-    let stands = sym is ∙ came.0.left in (
+      subst (λ (l : List ℕ). Kept n ws l (turn.j + 1)) (sym w.above-is) (kept_more turn.invariant.3 _ (search rules) w.turn_word-up.ensures),
+    )
+    | else-stands w ↦
+    let stands = sym is ∙ w.if-stands.false in (
       search rules,
       every_more (word_prime n ws) turn.j turn.invariant.1 (prime-past n ws turn.j stands),
       next_word (word_irreducible n ws) turn.j turn.types _ _ turn.invariant.2 is c.with_bit-types.ensures,
-      subst (λ (l : List ℕ). Kept n ws l (turn.j + 1)) (sym came.1) (kept-past turn.invariant.3 stands),
-    ))
-    c.if-stands.branch
+      subst (λ (l : List ℕ). Kept n ws l (turn.j + 1)) (sym w.above-is) (kept-past turn.invariant.3 stands),
+    )
+    ]
 
 pub returns : goal.returns
 returns c =

@@ -1,8 +1,6 @@
-use mathlib.Core.Bool.{not}
 use Prim.Native.Nat.{ℕ, ◌+◌, ◌-◌, ◌<◌}
 use mathlib.Core.Path.{◌≡◌, refl, sym, ap, subst, ◌∙◌}
-use mathlib.Core.Bool.{Bool, true, false}
-use mathlib.Core.Logic.{⊎_elim}
+use mathlib.Core.Bool.{Bool, true, false, not}
 use native.Mathlib.Nat.{not-suc-le-zero}
 use native.Mathlib.Omega.{arith}
 use mathlib.Core.List.{List}
@@ -15,6 +13,7 @@ use Rattle.bounds.specs.Sets.{Sets, SoughtBy}
 use Rattle.lattice.proofs.Every.{refuted, held, true-not-false}
 use Rattle.bounds.proofs.Held.{sets_more}
 use borrow.Author.Rules.{rules}
+use Rattle.bounds.proofs.sets.hold.Goals.{then-up, else-up}
 use Rattle.bounds.proofs.sets.hold.Goals as goal
 
 -- one type more
@@ -29,13 +28,11 @@ again {up} n {ws} {sets} {new} {k} {v} w long s l e f q = (
 
 pub returns-then-not-found : goal.returns-then-not-found
 returns-then-not-found c =
-    (
-      sym (refuted c.find_irreducibles-found.ensures.primes c.if-not-found.true),
-      (
-        λ e. absurd (true-not-false false e refl),
-        λ e. get_or-set_same c.args.sets.now (c.args.n - 1) 0 0 (omega (arith, c.requires.1, c.requires.0)),
-      ),
-    )
+    record {
+      value = sym (refuted c.find_irreducibles-found.ensures.primes (ap not c.if-not-found.true));
+      sets = λ e. absurd (true-not-false false e refl);
+      n_after = λ e. get_or-set_same c.args.sets.now (c.args.n - 1) 0 0 (omega (arith, c.requires.sets_len, c.requires.n_nonzero));
+    }
 
 pub loop-a-init : goal.loop-a-init
 loop-a-init c =
@@ -49,25 +46,24 @@ loop-a-preserved c =
     let ws = c.args.down.now in
     let primes = held refl (ap not c.if-not-found.false) in
     let value = ap (bit_and (get_or ws turn.a 0)) (found.ensures.types primes) in
-    ⊎_elim
-    (λ came.
+    elim c.if-up.branch [
+      then-up came ↦
     let w = get_or found.result.above turn.a 0 in
-    let sought = subst (λ (b : Bool). SoughtBy b n ws turn.a w) (sym came.0.taken) (found.ensures.above primes turn.a (search rules)) in
-    let next = again n w turn.invariant.1 turn.invariant.2 (search rules) value sought came.2 in (search rules, next.0, next.1))
-    (λ came.
+    let sought = subst (λ (b : Bool). SoughtBy b n ws turn.a w) (sym came.if-up.true) (found.ensures.above primes turn.a (search rules)) in
+    let next = again n w turn.invariant.1 turn.invariant.2 (search rules) value sought came.sets-is in (search rules, next.0, next.1)
+    | else-up came ↦
     let w = get_or ws turn.a 0 in
-    let sought = subst (λ (b : Bool). SoughtBy b n ws turn.a w) (sym came.0.left) refl in
-    let next = again n w turn.invariant.1 turn.invariant.2 (search rules) value sought came.2 in (search rules, next.0, next.1))
-    c.if-up.branch
+    let sought = subst (λ (b : Bool). SoughtBy b n ws turn.a w) (sym came.if-up.false) refl in
+    let next = again n w turn.invariant.1 turn.invariant.2 (search rules) value sought came.sets-is in (search rules, next.0, next.1)
+    ]
 
 pub returns : goal.returns
 returns c =
     let turn = c.loop-a in
     let n = c.args.n in
-    let done : turn.a ≡ n = search rules in (
-      sym (held c.find_irreducibles-found.ensures.primes c.if-not-found.false),
-      (
-        λ e. subst (Sets c.args.up n c.args.down.now _) done turn.invariant.2,
-        λ e. absurd (true-not-false true refl e),
-      ),
-    )
+    let done : turn.a ≡ n = search rules in
+    record {
+      value = sym (held c.find_irreducibles-found.ensures.primes (ap not c.if-not-found.false));
+      sets = λ e. subst (Sets c.args.up n c.args.down.now _) done turn.invariant.2;
+      n_after = λ e. absurd (true-not-false true refl e);
+    }

@@ -17,10 +17,7 @@ pub with_bit-requires : goal.with_bit-requires
 with_bit-requires c =
     let turn = c.loop-left in
     let bit = c.end_bit-i in
-    (c.requires.0, subst (λ (x : ℕ). x < 2 ^ c.args.j) (sym (spread-kept _ _ _ turn.left turn.result turn.invariant bit.result bit.ensures.0 bit.ensures.1)) (c.requires.2 bit.result bit.ensures.0))
-
--- LEFT element-write-result
--- element-write-result c = omega (arith, c.before.before.end-bit.ensures.0, c.before.before.before.before.loop.invariant.long)
+    (c.requires.0, subst (λ (x : ℕ). x < 2 ^ c.args.j) (sym (spread-kept _ _ _ turn.left turn.res turn.invariant bit.result bit.ensures.0 bit.ensures.1)) (c.requires.2 bit.result bit.ensures.0))
 
 pub loop-left-smaller : goal.loop-left-smaller
 loop-left-smaller c =
@@ -34,8 +31,8 @@ loop-left-preserved c =
     let turn = c.loop-left in
     let bit = c.end_bit-i in
     let next = c.without_lowest-left.ensures ∙ ap (λ (j : ℕ). without turn.left (2 ^ j)) (sym (bit.ensures.2 refl)) in
-    subst (λ (w : ℕ). Spread c.args.word c.args.j c.args.res.now w (set turn.result bit.result c.with_bit.result)) (sym next)
-    (spread-next _ _ _ turn.left turn.result turn.invariant bit.result c.with_bit.result bit.ensures.0 bit.ensures.1 c.with_bit.ensures)
+    subst (λ (w : ℕ). Spread c.args.word c.args.j c.args.res.now w (set turn.res bit.result c.with_bit.result)) (sym next)
+    (spread-next _ _ _ turn.left turn.res turn.invariant bit.result c.with_bit.result bit.ensures.0 bit.ensures.1 c.with_bit.ensures)
 
 pub returns : goal.returns
-returns c = subst (λ (w : ℕ). Spread c.args.word c.args.j c.args.res.now w c.loop-left.result) c.loop-left-test.false c.loop-left.invariant
+returns c = subst (λ (w : ℕ). Spread c.args.word c.args.j c.args.res.now w c.loop-left.res) c.loop-left-test.false c.loop-left.invariant

@@ -28,4 +28,4 @@ loop-j-preserved c =
 pub returns : goal.returns
 returns c i l =
     let turn = c.loop-j in
-    turn.invariant.2 i (omega (arith, c.requires)) ∙ ap (λ (k : ℕ). turned k c.args.words.now i) (omega (arith, turn.invariant.all, c.loop-j-test.false))
+    turn.invariant.2 i (omega (arith, c.requires)) ∙ ap (λ (k : ℕ). turned k c.args.words.now i) (omega (arith, turn.invariant.0, c.loop-j-test.false))
