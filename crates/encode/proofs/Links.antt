@@ -28,11 +28,11 @@ target-source (l ∷ ls) f w e = go (eqb l.0 f) refl e (target-source ls f w)
     go false q h rest = Memᴰ.tail (rest h)
 
 -- of ascending links each is found
-pub target-member : (links : List (ℕ × ℕ)) (l : ℕ × ℕ) → Ascending links → Memᴰ l links → target links l.0 ≡ some l.1
-target-member links l up (Memᴰ.head {x = x} {xs = ls} e) =
+pub target-member : (l : ℕ × ℕ) (links : List (ℕ × ℕ)) → Ascending links → Memᴰ l links → target links l.0 ≡ some l.1
+target-member l links up (Memᴰ.head {x = x} {xs = ls} e) =
     target_first l.0 x ls (sym (ap (λ (m : ℕ × ℕ). m.0) e)) ∙ ap (λ (m : ℕ × ℕ). some m.1) (sym e)
-target-member links l up (Memᴰ.tail {x = x} {xs = ls} m) =
-    target-later l.0 x ls (λ (e : x.0 ≡ l.0). omega (arith, up.0 l m)) ∙ target-member ls l up.1 m
+target-member l links up (Memᴰ.tail {x = x} {xs = ls} m) =
+    target-later l.0 x ls (λ (e : x.0 ≡ l.0). omega (arith, up.0 l m)) ∙ target-member l ls up.1 m
 
 module _ (name : ℕ → ℕ) where
   abbrev pub renamed : List (ℕ × ℕ) → List (ℕ × ℕ)

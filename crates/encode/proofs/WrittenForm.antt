@@ -154,7 +154,7 @@ module _ {ws : List ℕ} (sound : Sound ws) where
       link-seen : (v : ℕ) → Memᴰ v seen → (l : ℕ × ℕ) → Memᴰ l (links_at ws v) → Memᴰ l.1 seen
       link-seen v m l n =
           let h : Inside v = seen-inside v m in
-          grown.closed v (mem-new v m) l.0 l.1 (links-are ws v l.0 h ∙ target-member (links_at ws v) l (row-ascending sound v h) n)
+          grown.closed v (mem-new v m) l.0 l.1 (links-are ws v l.0 h ∙ target-member l (links_at ws v) (row-ascending sound v h) n)
 
       row_is : (v : ℕ) → Memᴰ v seen → row_of eqb g (reverse seen) v ≡ numbered_row ws numbers v
       unfolding row_of numbered_row

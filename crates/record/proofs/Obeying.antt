@@ -63,7 +63,7 @@ module _ (n : ℕ) (t list : List ℕ) (rows : List (Row Label)) (rules : Rules 
         let (p, d) = rules.reached v h in
         ap (λ (x : Row Label). allowed t list x.0.type l.0) (sym e) ∙
         all p v l.1 l.0 d
-        (ap (λ (x : Row Label). target x.1 l.0) e ∙ target-member r.1 l (rules.ordered r m).0 i),
+        (ap (λ (x : Row Label). target x.1 l.0) e ∙ target-member l r.1 (rules.ordered r m).0 i),
   )
 
 -- graphs of one meaning obey the same lists

@@ -50,4 +50,4 @@ shape_of-out c = c.loop-number.invariant.2.length-is ∙ simp length-set
 pub returns : goal.returns
 returns c =
     progress-done c.args.graph.now c.args.numbers.now c.args.visited.now c.args.out.now c.loop-number.invariant.2
-    (omega (arith, c.loop-number-test.false, c.loop-number.invariant.1)) c.loop-number.invariant.markable.few (omega (arith, c.loop-number.invariant.0.few, c.loop-number.invariant.0.long))
+    (omega (arith, c.loop-number-test.false, c.loop-number.invariant.1)) c.loop-number.invariant.0.few (omega (arith, c.loop-number.invariant.0.few, c.loop-number.invariant.0.long))

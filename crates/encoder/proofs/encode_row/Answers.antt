@@ -89,8 +89,9 @@ pub put_map-requires : goal.put_map-requires
 put_map-requires c = omega (arith, c.loop-k.invariant.1.length-is, c.loop-k.invariant.1.room)
 
 pub shape_of-out : goal.shape_of-out
-shape_of-out c = c.put_map.auto.1.1.0 ∙ c.loop-k.invariant.1.length-is ∙ c.put_label-map_at.auto.1.1.0
+shape_of-out c = c.put_map.auto.out ∙ c.loop-k.invariant.1.length-is ∙ c.put_label-map_at.auto.out
 
 pub returns : goal.returns
 returns c =
-    row_done c.requires.sound.0 c.args.v c.requires.sound.1 c.args.numbers.now c.args.at c.label_at.ensures c.args.out.now c.requires.v_in_bounds c.put_label-map_at.ensures c.loop-k.invariant.1 c.loop-k-test.false c.put_map.ensures
+    let all = row_done c.requires.sound.0 c.args.v c.requires.sound.1 c.args.numbers.now c.args.at c.label_at.ensures c.args.out.now c.requires.v_in_bounds (c.put_label-map_at.ensures.value, c.put_label-map_at.ensures.out_after) c.loop-k.invariant.1 c.loop-k-test.false c.put_map.ensures in
+    record { value = all.0; out_after = all.1 }

@@ -69,4 +69,4 @@ pub loop-i-preserved : goal.loop-i-preserved
 loop-i-preserved c = summed-step c.loop-i.invariant c.loop-i-test.true (omega (arith, c.type_inv.graph (get_or c.args.visited.now c.loop-i.i 0 + 2))) (c.range_count-ranges.ensures ∙ ap range_count c.label_at.ensures)
 
 pub returns : goal.returns
-returns c = (let all = summed-done c.loop-i.invariant c.loop-i-test.false in (record { links_value = all.numbers; ranges_value = all.numbers_len_2 }))
+returns c = (let all = summed-done c.loop-i.invariant c.loop-i-test.false in (record { links_value = all.0; ranges_value = all.1 }))

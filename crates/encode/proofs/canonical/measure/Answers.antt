@@ -10,43 +10,43 @@ pub returns-then-count-gt255 : goal.returns-then-count-gt255
 returns-then-count-gt255 c =
     let numbered = c.number-count.ensures in
     record {
-      refused = λ _. inl (too_many c.requires.sound numbered.numbers numbered.numbers_len_2.1 c.if-count-gt255.true);
+      refused = λ _. inl (too_many c.requires.sound numbered.numbers numbered.visited_len_2 c.if-count-gt255.true);
       fits = λ e. absurd (let z : ◌≡◌ {A = ℕ} 0 1 = cc in omega arith);
     }
 
 pub extent_of-extent-requires : goal.extent_of-extent-requires
 extent_of-extent-requires c =
     let numbered = c.number-count.ensures in
-    visited-nodes c.requires.sound numbered.numbers numbered.numbers_len_2.1 c.if-count-gt255.false
+    visited-nodes c.requires.sound numbered.numbers numbered.visited_len_2 c.if-count-gt255.false
 
 pub returns-then-extent-gt2048 : goal.returns-then-extent-gt2048
 returns-then-extent-gt2048 c =
     let numbered = c.number-count.ensures in
     record {
       refused = λ _.
-          inr (many-links c.requires.sound numbered.numbers numbered.numbers_len_2.1 c.if-count-gt255.false (omega (arith, c.extent_of-extent.ensures, c.if-extent-gt2048.true)));
+          inr (many-links c.requires.sound numbered.numbers numbered.visited_len_2 c.if-count-gt255.false (omega (arith, c.extent_of-extent.ensures, c.if-extent-gt2048.true)));
       fits = λ e. absurd (let z : ◌≡◌ {A = ℕ} 0 1 = cc in omega arith);
     }
 
 pub overflow_mul-length-2 : goal.overflow_mul-length-2
 overflow_mul-length-2 c =
     let numbered = c.number-count.ensures in
-    omega (arith, ranges-few c.requires.sound numbered.numbers numbered.numbers_len_2.1 c.if-count-gt255.false c.extent_of-extent.ensures)
+    omega (arith, ranges-few c.requires.sound numbered.numbers numbered.visited_len_2 c.if-count-gt255.false c.extent_of-extent.ensures)
 
 pub overflow_add-length-2 : goal.overflow_add-length-2
 overflow_add-length-2 c =
     let numbered = c.number-count.ensures in
-    omega (arith, c.if-count-gt255.false, ranges-few c.requires.sound numbered.numbers numbered.numbers_len_2.1 c.if-count-gt255.false c.extent_of-extent.ensures)
+    omega (arith, c.if-count-gt255.false, ranges-few c.requires.sound numbered.numbers numbered.visited_len_2 c.if-count-gt255.false c.extent_of-extent.ensures)
 
 pub overflow_add-length-3 : goal.overflow_add-length-3
 overflow_add-length-3 c =
     let numbered = c.number-count.ensures in
-    omega (arith, c.if-count-gt255.false, ranges-few c.requires.sound numbered.numbers numbered.numbers_len_2.1 c.if-count-gt255.false c.extent_of-extent.ensures, c.if-extent-gt2048.false)
+    omega (arith, c.if-count-gt255.false, ranges-few c.requires.sound numbered.numbers numbered.visited_len_2 c.if-count-gt255.false c.extent_of-extent.ensures, c.if-extent-gt2048.false)
 
 pub returns : goal.returns
 returns c =
     let numbered = c.number-count.ensures in
     record {
       refused = λ e. absurd (let z : ◌≡◌ {A = ℕ} 0 1 = cc in omega arith);
-      fits = λ _. measured-fits c.requires.0 numbered.0 numbered.1.1 c.if-count-gt255.false c.extent_of-extent.ensures c.if-extent-gt2048.false;
+      fits = λ _. measured-fits c.requires.sound numbered.numbers numbered.visited_len_2 c.if-count-gt255.false c.extent_of-extent.ensures c.if-extent-gt2048.false;
     }

@@ -25,7 +25,11 @@ encode-requires c =
 pub put_marks-requires : goal.put_marks-requires
 put_marks-requires c =
     let fits = c.measure-sizes.ensures.fits c.if-sizes.false in
-    (fits.nodes, (c.requires.at_bound, omega (arith, fits.links-are, c.if-beside-sizes.false)))
+    record {
+      visited = fits.nodes;
+      graph_len_bound = c.requires.graph_len_bound;
+      visited_in_bounds = omega (arith, fits.links-are, c.if-beside-sizes.false);
+    }
 
 pub returns : goal.returns
 returns c =

@@ -6,7 +6,7 @@ use Rattle.encode.proofs.marks.put_marks.Goals as goal
 
 pub loop-i-init : goal.loop-i-init
 loop-i-init c =
-    marks-start c.args.graph.now c.args.marks.now c.requires.visited c.requires.graph_len_bound.0.0 c.requires.graph_len_bound.0.1 c.requires.graph_len_bound.1
+    marks-start c.args.graph.now c.args.marks.now c.requires.visited c.requires.graph_len_bound.0 c.requires.graph_len_bound.1 c.requires.visited_in_bounds
 
 pub offset_bounds-visited-i : goal.offset_bounds-visited-i
 offset_bounds-visited-i c = omega (arith, c.loop-i.invariant.visited.few, c.loop-i-test.true)
@@ -20,10 +20,11 @@ overflow_cast-v c = omega (arith, visited-small c.loop-i.invariant.visited c.loo
 pub put_row-at-requires : goal.put_row-at-requires
 put_row-at-requires c =
     let inv = c.loop-i.invariant in
-    (
-      (inv.visited.sound, inv.visited.nodes c.loop-i.i c.loop-i-test.true),
-      ((inv.short, inv.long), marks-room c.args.graph.now c.args.marks.now inv c.loop-i-test.true),
-    )
+    record {
+      sound = (inv.visited.sound, inv.visited.nodes c.loop-i.i c.loop-i-test.true);
+      graph_len_bound = (inv.short, inv.long);
+      v_in_bounds = marks-room c.args.graph.now c.args.marks.now inv c.loop-i-test.true;
+    }
 
 pub overflow_add-i : goal.overflow_add-i
 overflow_add-i c = omega (arith, c.loop-i.invariant.visited.few, c.loop-i-test.true)

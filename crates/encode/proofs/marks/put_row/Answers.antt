@@ -34,7 +34,7 @@ pub loop-k-init : goal.loop-k-init
 loop-k-init c =
     let node = c.requires.sound.0.shaped.node c.args.v c.requires.sound.1 in (
       omega (arith, c.type_inv.graph (c.args.v + 2)),
-      turn-start node.begun (omega (arith, node.ended, c.requires.graph_len_bound.0.0)) c.requires.graph_len_bound.0.1 c.requires.graph_len_bound.1,
+      turn-start node.begun (omega (arith, node.ended, c.requires.graph_len_bound.0)) c.requires.graph_len_bound.1 c.requires.v_in_bounds,
     )
 
 pub bounds-marks-k : goal.bounds-marks-k

@@ -1,12 +1,12 @@
 -- `numbering::visit` meets its contract. The measure is the depth left. The loop's invariant: what the visit finds is what following the
 -- rest of the targets finds.
 use Prim.Native.Nat.{ℕ, ◌<◌, ◌+◌, ◌-◌}
-use mathlib.Core.Logic.{⊎_elim}
 use native.Mathlib.Omega.{arith}
 use borrow.Author.Rules.{rules}
 use Rattle.visits.specs.Visiting.{seen_of, below}
 use Rattle.visits.proofs.Visiting.{Follows, follow, follows-as, follow-met, follow-found, found_all, found-crowded, found-deep, found-full, entered, ready, target-in, place-in, listed}
 use Rattle.visits.proofs.numbering.+visit.Goals as goal
+use Rattle.visits.proofs.numbering.+visit.Goals.{then-numbers-w+else-count-ge255+else-depth-eq0+else-count-gt255, else-numbers-w}
 
 pub bounds-graph-v : goal.bounds-graph-v
 bounds-graph-v t c = listed c.requires
@@ -55,7 +55,7 @@ visit-count-requires t c =
 pub returns-then-count-gt255 : goal.returns-then-count-gt255
 returns-then-count-gt255 t c =
     let is = c.target-w.ensures in
-    entered c.requires c.args.depth 256 c.visit-count.new.visited.0 c.visit-count.new.1.1.0
+    entered c.requires c.args.depth 256 c.visit-count.new.numbers c.visit-count.new.visited
     (found-full c.loop-k.invariant c.loop-k-test.true (rw is at c.if-numbers-w.true)
     (omega (arith, c.if-count-ge255.false)) c.if-depth-eq0.false (rw is at c.visit-count.ensures) c.if-count-gt255.true)
 
@@ -65,15 +65,15 @@ overflow_add-k t c = omega (arith, c.type_inv.graph (c.args.v + 2))
 pub loop-k-preserved : goal.loop-k-preserved
 loop-k-preserved t c =
     let is = c.target-w.ensures in
-    ⊎_elim
-    (λ w.
-    follows-as w.7 w.8 w.9
-    (follow-found c.loop-k.invariant c.loop-k-test.true (rw is at w.0.taken)
-    (omega (arith, w.1.left)) w.2.left (rw is at w.5.ensures) w.6.left))
-    (λ w.
-    follows-as w.1 w.2 w.3
-    (follow-met c.loop-k.invariant c.loop-k-test.true (rw is at w.0.left)))
-    c.if-numbers-w.branch
+    elim c.if-numbers-w.branch [
+      then-numbers-w+else-count-ge255+else-depth-eq0+else-count-gt255 w ↦
+      follows-as w.numbers-is w.visited-is w.count-is
+      (follow-found c.loop-k.invariant c.loop-k-test.true (rw is at w.if-numbers-w.true)
+      (omega (arith, w.if-count-ge255.false)) w.if-depth-eq0.false (rw is at w.visit-count.ensures) w.if-count-gt255.false)
+    | else-numbers-w w ↦
+      follows-as w.numbers-is w.visited-is w.count-is
+      (follow-met c.loop-k.invariant c.loop-k-test.true (rw is at w.if-numbers-w.false))
+    ]
 
 pub returns : goal.returns
 returns t c =

@@ -12,7 +12,7 @@ visit-requires c =
     let cleared = c.clear in
     record {
       sound = c.requires.sound;
-      marks = unmarked c.args.graph.now cleared.new.1.0 c.args.visited.now cleared.ensures.numbers_len_2 c.requires.numbers_len.1 cleared.ensures.by_index;
+      marks = unmarked c.args.graph.now cleared.new.numbers c.args.visited.now cleared.ensures.numbers_len_2 c.requires.visited_len cleared.ensures.by_index;
       inside = c.requires.sound.shaped.nonempty;
       fresh = cleared.ensures.by_index 0 c.requires.sound.shaped.nonempty;
       room = omega arith;
@@ -20,8 +20,9 @@ visit-requires c =
 
 pub returns : goal.returns
 returns c =
-    let found = c.visit.ensures in (
-      numbered c.args.graph.now c.visit.new.1.numbered
-          c.visit.new.1.1.numbers c.args.visited.now found,
-      (found.numbers-long, found.visited-long),
-    )
+    let found = c.visit.ensures in
+    record {
+      numbers = numbered c.args.graph.now c.visit.new.numbers c.visit.new.visited c.args.visited.now found;
+      numbers_len_2 = found.numbers-long;
+      visited_len_2 = found.visited-long;
+    }

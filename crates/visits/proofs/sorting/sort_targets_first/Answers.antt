@@ -1,10 +1,10 @@
 use mathlib.Core.Path.{refl}
-use mathlib.Core.Logic.{⊎_elim}
 use Prim.Native.Nat.{◌-◌}
 use native.Mathlib.Omega.{arith}
 use Rattle.layout.proofs.Places.{sized}
 use Rattle.visits.proofs.Colouring.{sweeping-start, sweeping-entered, sweeping-over, sweeping-down, sweeping-sorts, looped-sorts}
 use Rattle.visits.proofs.sorting.sort_targets_first.Goals as goal
+use Rattle.visits.proofs.sorting.sort_targets_first.Goals.{then-colour-v-eq0+in-Count, else-colour-v-eq0}
 
 pub bounds-graph-0 : goal.bounds-graph-0
 bounds-graph-0 c = sized c.requires.sound
@@ -19,7 +19,15 @@ pub returns-in-Back : goal.returns-in-Back
 returns-in-Back c = (record { sorts = looped-sorts (c.finish.ensures.looped c.in-Back.is); order_len_2 = c.finish.ensures.roomy })
 
 pub loop-v-preserved : goal.loop-v-preserved
-loop-v-preserved c = ⊎_elim (λ w. rw (w.7, w.8, w.9) (sweeping-down c.loop-v.invariant (omega arith) (w.3.ensures.counted _ w.5.given.1) (w.3.ensures.finished _ w.5.given.1))) (λ w. rw (w.1, w.2, w.3) (sweeping-over c.loop-v.invariant (omega arith) w.0.left)) (((c.if-colour-v-eq0.branch.value, c.if-colour-v-eq0.branch.out_after).value, (c.if-colour-v-eq0.branch.value, c.if-colour-v-eq0.branch.out_after).out_after).value, ((c.if-colour-v-eq0.branch.value, c.if-colour-v-eq0.branch.out_after).value, (c.if-colour-v-eq0.branch.value, c.if-colour-v-eq0.branch.out_after).out_after).out_after)
+loop-v-preserved c =
+    elim c.if-colour-v-eq0.branch [
+      then-colour-v-eq0+in-Count w ↦
+      rw (w.colour-is, w.order-is, w.count-is)
+      (sweeping-down c.loop-v.invariant (omega arith) (w.finish.ensures.counted _ w.in-Count.is) (w.finish.ensures.finished _ w.in-Count.is))
+    | else-colour-v-eq0 w ↦
+      rw (w.colour-is, w.order-is, w.count-is)
+      (sweeping-over c.loop-v.invariant (omega arith) w.if-colour-v-eq0.false)
+    ]
 
 pub returns : goal.returns
 returns c = (record { sorts = sweeping-sorts c.loop-v.invariant c.loop-v-test.false; order_len_2 = c.loop-v.invariant.placed.roomy })
