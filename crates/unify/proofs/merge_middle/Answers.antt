@@ -7,4 +7,13 @@ use Rattle.merging.proofs.Sizes.{spacious}
 use Rattle.unify.proofs.merge_middle.Goals as goal
 
 pub merge_within-requires : goal.merge_within-requires
-merge_within-requires c = let p = c.requires in (p.0, (p.1.0, (p.1.1.0, (p.1.1.1.0, (spacious p.1.1.0.recorded p.1.1.1.0.recorded {nodes = 80} {links = 240} {width = 64} p.1.1.1.1.1.0 p.1.1.1.1.1.1 (inl (omega arith)) (omega (arith, length-replicate {A = ℕ} 5456 0)) (omega (arith, length-replicate {A = ℕ} 241 0)), p.1.1.1.1.0)))))
+merge_within-requires c =
+    let p = c.requires in
+    record {
+      n_nonzero = p.n_nonzero;
+      meeting = p.meeting;
+      operand = p.operand;
+      operand_2 = p.operand_2;
+      spacious =
+        (spacious p.operand.recorded p.operand_2.recorded {nodes = 80} {links = 240} {width = 64} p.b_bound.0 p.b_bound.1 (inl (omega arith)) (omega (arith, length-replicate {A = ℕ} 5456 0)) (omega (arith, length-replicate {A = ℕ} 241 0)), p.holding);
+    }

@@ -7,10 +7,19 @@ use Rattle.merging.proofs.Sizes.{holding}
 use Rattle.unify.proofs.unify_middle.Goals as goal
 
 pub merge-requires : goal.merge-requires
-merge-requires c = let p = c.requires in (p.0, (p.1.0, (p.1.1.0, (p.1.1.1.0, holding p.1.1.0.recorded p.1.1.1.0.recorded {nodes = 80} {links = 240} p.1.1.1.1.0 p.1.1.1.1.1 (omega (arith, length-replicate {A = ℕ} 482 0)) (omega (arith, length-replicate {A = ℕ} 482 0))))))
+merge-requires c =
+    let p = c.requires in
+    record {
+      n_nonzero = p.n_nonzero;
+      meeting = p.meeting;
+      operand = p.operand;
+      operand_2 = p.operand_2;
+      holding =
+        holding p.operand.recorded p.operand_2.recorded {nodes = 80} {links = 240} p.b_bound.0 p.b_bound.1 (omega (arith, length-replicate {A = ℕ} 482 0)) (omega (arith, length-replicate {A = ℕ} 482 0));
+    }
 
 pub tell-requires : goal.tell-requires
-tell-requires c = class-sound c.requires.meeting.ready.0 c.requires.meeting.1.1.0 c.merge.ensures
+tell-requires c = class-sound c.requires.operand c.requires.operand_2 c.merge.ensures
 
 pub returns : goal.returns
-returns c = c.tell.ensures _ _ _ _ c.requires.meeting.ready.0 c.requires.meeting.1.1.0 c.merge.ensures
+returns c = c.tell.ensures _ _ _ _ c.requires.operand c.requires.operand_2 c.merge.ensures

@@ -32,4 +32,4 @@ pub loop-x-preserved : goal.loop-x-preserved
 loop-x-preserved c = (rw (add-one c.loop-x.x) (flat_step c.requires c.loop-x.x c.loop-x-test.true c.loop-x.invariant.0), omega (arith, c.loop-x-test.true))
 
 pub returns : goal.returns
-returns c = let i = c.loop-x.invariant in (record { parent_len = i.owned.long; by_index = λ x h. i.owned.done x (omega (arith, c.loop-x-test.false)) })
+returns c = let i = c.loop-x.invariant in (record { parent_len = i.0.long; by_index = λ x h. i.0.done x (omega (arith, c.loop-x-test.false)) })

@@ -4,7 +4,7 @@ use Rattle.classes.proofs.Merging.{merge-start, merge-done, left_in, right-in, b
 use Rattle.classes.proofs.rows.merge.Goals as goal
 
 pub loop-i-init : goal.loop-i-init
-loop-i-init c = let p = c.requires in merge-start _ _ _ _ _ _ _ _ (record { fits = p.used_in_bounds.0; places = p.used_in_bounds.1; a = p.span.rising; b = p.span.before.0; room = p.span.1.1.1 })
+loop-i-init c = let p = c.requires in merge-start _ _ _ _ _ _ _ _ (record { fits = p.used_in_bounds.0; places = p.used_in_bounds.1; a = p.span; b = p.span_2; room = p.used_bound.1 })
 
 pub feature_at-f-requires : goal.feature_at-f-requires
 feature_at-f-requires c = let s = c.loop-i.invariant in omega (arith, s.asked.a.before, s.asked.fits, s.merged.pool-long)
