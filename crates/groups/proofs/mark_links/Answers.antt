@@ -16,4 +16,4 @@ slice_bounds-mark_owned-end-2 c = sym (unowned-fresh 2815 c.args.s.now c.require
 
 pub mark_owned-requires-2 : goal.mark_owned-requires-2
 mark_owned-requires-2 c =
-    (record { lying = (c.requires.by_index, c.requires.marks_len); unowned = (unowned-fresh 2815 c.args.s.now c.requires(.by_index.short.value, .by_index.short.out_after), c.requires.2) })
+    (record { lying = (c.requires.0, c.requires.1); unowned = (unowned-fresh 2815 c.args.s.now c.requires.0.short, c.requires.2) })

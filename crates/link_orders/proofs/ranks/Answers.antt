@@ -11,7 +11,7 @@ pub places-requires : goal.places-requires
 places-requires c = c.requires c.if-order.true
 
 pub returns-then-order : goal.returns-then-order
-returns-then-order c = record { long = c.places.ensures.0; each = λ f h. c.places.ensures.1 f h ∙ ap (λ (b : Bool). cond b (place_in c.args.t1.list f) 0) (sym c.if-order.true) }
+returns-then-order c = record { long = c.places.ensures.0; each = λ f h. c.places.ensures.1 f h ∙ ap (λ (b : Bool). cond b (place_in c.args.order.list f) 0) (sym c.if-order.true) }
 
 pub returns : goal.returns
-returns c = record { long = refl; each = λ f h. get_or-replicate {A = ℕ} 64 f 0 0 h ∙ ap (λ (b : Bool). cond b (place_in c.args.t1.list f) 0) (sym c.if-order.false) }
+returns c = record { long = refl; each = λ f h. get_or-replicate {A = ℕ} 64 f 0 0 h ∙ ap (λ (b : Bool). cond b (place_in c.args.order.list f) 0) (sym c.if-order.false) }

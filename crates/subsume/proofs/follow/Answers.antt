@@ -1,21 +1,21 @@
 use Prim.Native.Nat.{◌+◌, ◌-◌}
 use native.Mathlib.Omega.{arith}
-use mathlib.Core.Logic.{⊎_elim}
 use Rattle.subsume.proofs.Following.{spans, nodes, following-start, following-done, following-met, following-new, following-as, fails, lacks-end, lacks-feature, splits-here, target-in, room}
 use Rattle.subsume.proofs.seek.Reads as seek-reads
+use Rattle.subsume.proofs.follow.Goals.{then-image, else-image+else-image-x}
 use Rattle.subsume.proofs.follow.Goals as goal
 
 pub links_from-k-requires : goal.links_from-k-requires
-links_from-k-requires c = let node = nodes c.requires.recorded_2.0 in omega (arith, node.listed)
+links_from-k-requires c = let node = nodes c.requires.recorded_2 in omega (arith, node.listed)
 
 pub overflow_add-g_end : goal.overflow_add-g_end
-overflow_add-g_end c = let node = nodes c.requires.recorded_2.0 in omega (arith, node.listed)
+overflow_add-g_end c = let node = nodes c.requires.recorded_2 in omega (arith, node.listed)
 
 pub offset_bounds-g-v : goal.offset_bounds-g-v
-offset_bounds-g-v c = let node = nodes c.requires.recorded_2.0 in omega (arith, node.listed)
+offset_bounds-g-v c = let node = nodes c.requires.recorded_2 in omega (arith, node.listed)
 
 pub bounds-g-v : goal.bounds-g-v
-bounds-g-v c = let node = nodes c.requires.recorded_2.0 in omega (arith, node.listed)
+bounds-g-v c = let node = nodes c.requires.recorded_2 in omega (arith, node.listed)
 
 pub overflow_cast-g_end : goal.overflow_cast-g_end
 overflow_cast-g_end c = omega (arith, c.type_inv.g (c.args.v + 2))
@@ -36,7 +36,7 @@ pub overflow_cast-s_end : goal.overflow_cast-s_end
 overflow_cast-s_end c = omega (arith, c.type_inv.s (c.args.u + 2))
 
 pub loop-k-init : goal.loop-k-init
-loop-k-init c = rw (c.links_from-k.ensures, c.links_from-j.ensures) (following-start (spans c.requires.recorded.0 _ c.requires.recorded.1) (spans c.requires.recorded_2.0.sound _ c.requires.recorded_2.0.1) c.requires.recorded_2.1)
+loop-k-init c = rw (c.links_from-k.ensures, c.links_from-j.ensures) (following-start (spans c.requires.recorded.0 _ c.requires.recorded.1) (spans c.requires.recorded_2.0 _ c.requires.recorded_2.1) c.requires.queued)
 
 pub offset_bounds-g-k : goal.offset_bounds-g-k
 offset_bounds-g-k c = omega (arith, c.loop-k.invariant.g-row.node.ended, c.loop-k-test.true)
@@ -90,7 +90,13 @@ pub returns-then-image-x : goal.returns-then-image-x
 returns-then-image-x c = fails (splits-here c.loop-k.invariant c.loop-k-test.true (rw c.feature-f.ensures at c.seek-j.ensures) (omega (arith, c.if-s_end-j.false)) (omega (arith, c.if-feature-f.false, c.feature.ensures, c.feature-f.ensures)) (rw c.target-w.ensures at c.if-image.false) (λ e. omega (arith, rw (c.target-w.ensures, c.target-x.ensures) at c.if-image-x.true)))
 
 pub loop-k-preserved : goal.loop-k-preserved
-loop-k-preserved c = let is = c.target-w.ensures in let aim = c.target-x.ensures in ⊎_elim (λ w. following-as (rw (is, aim) at w.1) (rw is at w.2) w.3 (following-new c.loop-k.invariant c.loop-k-test.true (rw c.feature-f.ensures at c.seek-j.ensures) (omega (arith, c.if-s_end-j.false)) (omega (arith, c.if-feature-f.false, c.feature.ensures, c.feature-f.ensures)) (rw is at w.0.taken))) (λ w. following-as w.2 w.3 w.4 (following-met c.loop-k.invariant c.loop-k-test.true (rw c.feature-f.ensures at c.seek-j.ensures) (omega (arith, c.if-s_end-j.false)) (omega (arith, c.if-feature-f.false, c.feature.ensures, c.feature-f.ensures)) (omega (arith, rw (is, aim) at w.1.left)))) c.if-image.branch
+loop-k-preserved c =
+  let is = c.target-w.ensures in
+  let aim = c.target-x.ensures in
+  elim c.if-image.branch [
+    | then-image w ↦ following-as (rw (is, aim) at w.map-is) (rw is at w.queue-is) w.end-is (following-new c.loop-k.invariant c.loop-k-test.true (rw c.feature-f.ensures at c.seek-j.ensures) (omega (arith, c.if-s_end-j.false)) (omega (arith, c.if-feature-f.false, c.feature.ensures, c.feature-f.ensures)) (rw is at w.if-image.true))
+    | else-image+else-image-x w ↦ following-as w.map-is w.queue-is w.end-is (following-met c.loop-k.invariant c.loop-k-test.true (rw c.feature-f.ensures at c.seek-j.ensures) (omega (arith, c.if-s_end-j.false)) (omega (arith, c.if-feature-f.false, c.feature.ensures, c.feature-f.ensures)) (omega (arith, rw (is, aim) at w.if-image-x.false)))
+  ]
 
 pub returns : goal.returns
 returns c = following-done c.loop-k.invariant c.loop-k-test.false

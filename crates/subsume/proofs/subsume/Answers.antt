@@ -56,7 +56,7 @@ returns-then-not-is_label_below c = λ n. order-label c.loop-head.invariant c.lo
 
 -- src/lib.rt:128:9
 pub follow-count-requires : goal.follow-count-requires
-follow-count-requires c = let node = next-node c.loop-head.invariant c.loop-head-test.true in let inv = c.loop-head.invariant in ((inv.lower, node.image), ((inv.upper, node.inside), inv.queued))
+follow-count-requires c = let node = next-node c.loop-head.invariant c.loop-head-test.true in let inv = c.loop-head.invariant in record { recorded = (inv.lower, node.image); recorded_2 = (inv.upper, node.inside); queued = inv.queued }
 
 -- src/lib.rt:130:13
 pub returns-then-count-gt255 : goal.returns-then-count-gt255
@@ -72,7 +72,7 @@ loop-head-smaller c = omega (arith, c.loop-head.invariant.queued.counted, c.loop
 
 -- src/lib.rt:117:5
 pub loop-head-preserved : goal.loop-head-preserved
-loop-head-preserved c = searched-on c.loop-head.invariant c.loop-head-test.true (λ n. ap₂ (table_labels n _).le (sym c.label_at-a.ensures) (sym c.label_at-b.ensures) ∙ sym (c.is_label_below.ensures n) ∙ not-false _ ((record.value, record.out_after) { labels_over = c.if-not-is_label_below.false.value; by_index = c.if-not-is_label_below.false.out_after })) (c.follow-count.ensures.goes (omega (arith, c.if-count-gt255.false)))
+loop-head-preserved c = searched-on c.loop-head.invariant c.loop-head-test.true (λ n. ap₂ (table_labels n _).le (sym c.label_at-a.ensures) (sym c.label_at-b.ensures) ∙ sym (c.is_label_below.ensures n) ∙ c.if-not-is_label_below.false) (c.follow-count.ensures.goes (omega (arith, c.if-count-gt255.false)))
 
 -- src/lib.rt:108:1
 pub returns : goal.returns
