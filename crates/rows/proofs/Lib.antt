@@ -1,4 +1,5 @@
 -- These files have the laws of rows and of the loops over them.
+pub mod Laid
 pub mod Known
 pub mod Placed
 pub mod FilledRows

@@ -16,7 +16,11 @@ pub loop-v-init : goal.loop-v-init
 loop-v-init c = filling-start c.args.graph.now c.requires.fillable c.requires.graph_len
 
 pub fill_row-at-requires : goal.fill_row-at-requires
-fill_row-at-requires c = ((c.loop-v.invariant.fillable, c.loop-v-test.true), (filling-room c.loop-v.invariant c.loop-v-test.true, c.loop-v.invariant.long))
+fill_row-at-requires c = record {
+  fillable = (c.loop-v.invariant.fillable, c.loop-v-test.true);
+  v_bound = filling-room c.loop-v.invariant c.loop-v-test.true;
+  graph_len = c.loop-v.invariant.long;
+}
 
 pub overflow_cast-graph-in-loop-v : goal.overflow_cast-graph-in-loop-v
 overflow_cast-graph-in-loop-v c = omega (arith, next_low c.loop-v.invariant c.loop-v-test.true c.fill_row-at.ensures)

@@ -1,5 +1,4 @@
 use mathlib.Core.Path.{refl, sym, ◌∙◌}
-use borrow.Author.Tests.{not-true, not-false}
 use Prim.Native.Nat.{◌-◌}
 use borrow.Author.Rules.{rules}
 use Rattle.rows.proofs.Known.{stop, next, end}
@@ -12,10 +11,10 @@ pub loop-i-init : goal.loop-i-init
 loop-i-init c = (search rules, refl)
 
 pub returns-then-not-is_known : goal.returns-then-not-is_known
-returns-then-not-is_known c = stop c.args.nodes c.args.count c.args.t1 (search rules) c.loop-i.i (search rules) (search rules) (sym c.is_known.ensures ∙ not-true c.is_known.result c.if-not-is_known.true)
+returns-then-not-is_known c = stop c.args.nodes c.args.count c.args.all (search rules) c.loop-i.i (search rules) (search rules) (sym c.is_known.ensures ∙ c.if-not-is_known.true)
 
 pub loop-i-preserved : goal.loop-i-preserved
-loop-i-preserved c = (search rules, next c.args.nodes c.args.count c.args.t1 (search rules) c.loop-i.i (search rules) (search rules) (sym c.is_known.ensures ∙ not-false c.is_known.result c.if-not-is_known.false))
+loop-i-preserved c = (search rules, next c.args.nodes c.args.count c.args.all (search rules) c.loop-i.i (search rules) (search rules) (sym c.is_known.ensures ∙ c.if-not-is_known.false))
 
 pub returns : goal.returns
-returns c = end c.args.nodes c.args.count c.args.t1 (search rules) c.loop-i.i (search rules) (search rules)
+returns c = end c.args.nodes c.args.count c.args.all (search rules) c.loop-i.i (search rules) (search rules)
