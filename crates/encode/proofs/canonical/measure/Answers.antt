@@ -31,22 +31,22 @@ returns-then-extent-gt2048 c =
 pub overflow_mul-length-2 : goal.overflow_mul-length-2
 overflow_mul-length-2 c =
     let numbered = c.number-count.ensures in
-    omega (arith, ranges-few c.requires.sound numbered.numbers numbered.visited_len_2 c.if-count-gt255.false c.extent_of-extent.ensures)
+    omega (arith, ranges-few c.requires.sound numbered.numbers numbered.visited_len_2 c.if-count-gt255.false (c.extent_of-extent.ensures.links_value, c.extent_of-extent.ensures.ranges_value))
 
 pub overflow_add-length-2 : goal.overflow_add-length-2
 overflow_add-length-2 c =
     let numbered = c.number-count.ensures in
-    omega (arith, c.if-count-gt255.false, ranges-few c.requires.sound numbered.numbers numbered.visited_len_2 c.if-count-gt255.false c.extent_of-extent.ensures)
+    omega (arith, c.if-count-gt255.false, ranges-few c.requires.sound numbered.numbers numbered.visited_len_2 c.if-count-gt255.false (c.extent_of-extent.ensures.links_value, c.extent_of-extent.ensures.ranges_value))
 
 pub overflow_add-length-3 : goal.overflow_add-length-3
 overflow_add-length-3 c =
     let numbered = c.number-count.ensures in
-    omega (arith, c.if-count-gt255.false, ranges-few c.requires.sound numbered.numbers numbered.visited_len_2 c.if-count-gt255.false c.extent_of-extent.ensures, c.if-extent-gt2048.false)
+    omega (arith, c.if-count-gt255.false, ranges-few c.requires.sound numbered.numbers numbered.visited_len_2 c.if-count-gt255.false (c.extent_of-extent.ensures.links_value, c.extent_of-extent.ensures.ranges_value), c.if-extent-gt2048.false)
 
 pub returns : goal.returns
 returns c =
     let numbered = c.number-count.ensures in
     record {
       refused = λ e. absurd (let z : ◌≡◌ {A = ℕ} 0 1 = cc in omega arith);
-      fits = λ _. measured-fits c.requires.sound numbered.numbers numbered.visited_len_2 c.if-count-gt255.false c.extent_of-extent.ensures c.if-extent-gt2048.false;
+      fits = λ _. measured-fits c.requires.sound numbered.numbers numbered.visited_len_2 c.if-count-gt255.false (c.extent_of-extent.ensures.links_value, c.extent_of-extent.ensures.ranges_value) c.if-extent-gt2048.false;
     }
