@@ -16,4 +16,4 @@ slice_bounds-difference_in-end-2 c = sym (marks-fresh 2815 c.args.s.now c.requir
 
 pub difference_in-requires-2 : goal.difference_in-requires-2
 difference_in-requires-2 c =
-    (record { comparable = (c.requires.table_value, c.requires.loaded); g_len = (c.requires.2, marks-fresh 2815 c.args.s.now c.requires.table_value.short) })
+    (record { comparable = (c.requires.0, c.requires.1); g_len = (c.requires.2, marks-fresh 2815 c.args.s.now c.requires.0.short) })

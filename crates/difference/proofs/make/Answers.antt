@@ -11,43 +11,23 @@ use Rattle.difference.proofs.make.Goals as goal
 pub kept_nodes-requires : goal.kept_nodes-requires
 kept_nodes-requires c =
     let given = c.requires.0.3 in
-    let size = accepted-size c.args.n c.args.table.now given.asked.ok in (
-      (size.0, size.1, wants-known given.asked given.wants),
-      (
-        (markable-words given.asked given.marked.stands.long (length-replicate {A = ℕ} 255 0), λ v h. get_or-replicate {A = ℕ} 255 v 0 0 h),
-        acyclic-lower given.asked,
-      ),
-    )
+    let size = accepted-size c.args.n c.args.table.now given.asked.ok in
+    record {
+      le_n = (size.0, size.1, wants-known given.asked given.wants);
+      markable = (markable-words given.asked given.marked.stands.long (length-replicate {A = ℕ} 255 0), λ v h. get_or-replicate {A = ℕ} 255 v 0 0 h);
+      by_index = acyclic-lower given.asked;
+    }
 
 pub kept_links-requires : goal.kept_links-requires
 kept_links-requires c =
     let given = c.requires.0.3 in
     let size = accepted-size c.args.n c.args.table.now given.asked.ok in
-    let labels = wants-known given.asked given.wants in ((((
-      markable-words given.asked given.marked.stands.long c.kept_nodes.ensures.long,
-      ((labels.long, λ v h. known_more (omega (arith, size.1)) (labels.known v h)), c.requires.1),
-    ).value, (
-      markable-words given.asked given.marked.stands.long c.kept_nodes.ensures.long,
-      ((labels.long, λ v h. known_more (omega (arith, size.1)) (labels.known v h)), c.requires.1),
-    ).out_after).value, ((
-      markable-words given.asked given.marked.stands.long c.kept_nodes.ensures.long,
-      ((labels.long, λ v h. known_more (omega (arith, size.1)) (labels.known v h)), c.requires.1),
-    ).value, (
-      markable-words given.asked given.marked.stands.long c.kept_nodes.ensures.long,
-      ((labels.long, λ v h. known_more (omega (arith, size.1)) (labels.known v h)), c.requires.1),
-    ).out_after).out_after).value, (((
-      markable-words given.asked given.marked.stands.long c.kept_nodes.ensures.long,
-      ((labels.long, λ v h. known_more (omega (arith, size.1)) (labels.known v h)), c.requires.1),
-    ).value, (
-      markable-words given.asked given.marked.stands.long c.kept_nodes.ensures.long,
-      ((labels.long, λ v h. known_more (omega (arith, size.1)) (labels.known v h)), c.requires.1),
-    ).out_after).value, ((
-      markable-words given.asked given.marked.stands.long c.kept_nodes.ensures.long,
-      ((labels.long, λ v h. known_more (omega (arith, size.1)) (labels.known v h)), c.requires.1),
-    ).value, (
-      markable-words given.asked given.marked.stands.long c.kept_nodes.ensures.long,
-      ((labels.long, λ v h. known_more (omega (arith, size.1)) (labels.known v h)), c.requires.1),
-    ).out_after).out_after).out_after)
+    let labels = wants-known given.asked given.wants in
+    record {
+      markable = markable-words given.asked given.marked.stands.long c.kept_nodes.ensures.long;
+      labels_len = (labels.long, λ v h. known_more (omega (arith, size.1)) (labels.known v h));
+      words_len = c.requires.1;
+    }
 
 pub returns : goal.returns
 returns c = record { keep = _; kept = c.kept_nodes.ensures; rows = c.kept_links.ensures }

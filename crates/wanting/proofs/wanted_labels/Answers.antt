@@ -35,7 +35,7 @@ pub loop-v-init : goal.loop-v-init
 loop-v-init c =
     let asked = c.requires in
     let words = c.read_words-down.ensures in
-    wants-start asked.value asked.by_index words (c.meet_over.ensures _ asked.value.ok words)
+    wants-start asked.0 asked.1 words (c.meet_over.ensures _ asked.0.ok words)
 
 pub label_at-p-requires : goal.label_at-p-requires
 label_at-p-requires c = (c.loop-v.invariant.shaped, c.loop-v-test.true)

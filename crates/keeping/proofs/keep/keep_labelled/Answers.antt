@@ -1,16 +1,15 @@
 use borrow.Author.Rules.{rules}
 use Prim.Native.Nat.{◌+◌, ◌-◌}
 use native.Mathlib.Omega.{arith}
-use mathlib.Core.Logic.{⊎_elim}
 use mathlib.Core.Path.{sym, ap, subst, ◌∙◌}
 use Rattle.lattice.specs.Label.{Label, plain}
 use Rattle.lattice.specs.Labels.{table_labels}
-use Rattle.lattice.proofs.Every.{refuted, held}
 use Rattle.lattice.proofs.Lawful.{known_more}
 use Rattle.keeping.specs.Keeping.{Grown, Untop}
 use Rattle.keeping.proofs.Keeping.{untop-start, untop-yes, untop-no, untop-done}
 use Rattle.layout.proofs.label_from.Reads as label-from-reads
 use Rattle.subsume.proofs.is_label_below.Reads as is-label-below-reads
+use Rattle.keeping.proofs.keep.keep_labelled.Goals.{then-not-is_label_below, else-not-is_label_below}
 use Rattle.keeping.proofs.keep.keep_labelled.Goals as goal
 
 pub loop-v-init : goal.loop-v-init
@@ -32,15 +31,18 @@ is_label_below-requires c =
 pub loop-v-preserved : goal.loop-v-preserved
 loop-v-preserved c =
     let is = c.is_label_below.ensures c.args.n ∙ ap ((table_labels c.args.n c.args.table.now).le (plain (c.args.n - 1))) c.label_from-label.ensures in
-    ⊎_elim (λ w. (
+    elim c.if-not-is_label_below.branch [
+    | then-not-is_label_below w ↦ (
       search rules,
-      subst (Grown (Untop c.args.n c.args.table.now c.args.labels.now (c.loop-v.v + 1)) c.args.keep.now) (sym w.1)
-          (untop-yes c.args.n c.args.table.now c.args.labels.now c.loop-v.v c.loop-v.invariant.1 (search rules) (refuted is w.0.taken)),
-    )) (λ w. (
+      subst (Grown (Untop c.args.n c.args.table.now c.args.labels.now (c.loop-v.v + 1)) c.args.keep.now) (sym w.keep-is)
+          (untop-yes c.args.n c.args.table.now c.args.labels.now c.loop-v.v c.loop-v.invariant.1 (search rules) (sym is ∙ w.if-not-is_label_below.true)),
+    )
+    | else-not-is_label_below w ↦ (
       search rules,
-      subst (Grown (Untop c.args.n c.args.table.now c.args.labels.now (c.loop-v.v + 1)) c.args.keep.now) (sym w.1)
-          (untop-no c.args.n c.args.table.now c.args.labels.now c.loop-v.v c.loop-v.invariant.1 (held is w.0.left)),
-    )) c.if-not-is_label_below.branch
+      subst (Grown (Untop c.args.n c.args.table.now c.args.labels.now (c.loop-v.v + 1)) c.args.keep.now) (sym w.keep-is)
+          (untop-no c.args.n c.args.table.now c.args.labels.now c.loop-v.v c.loop-v.invariant.1 (sym is ∙ w.if-not-is_label_below.false)),
+    )
+    ]
 
 pub returns : goal.returns
 returns c =

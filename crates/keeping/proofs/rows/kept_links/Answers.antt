@@ -33,7 +33,7 @@ overflow_cast-words c = omega (arith, c.requires.markable.small)
 
 -- src/rows.rt:52:5
 pub bounds-words-0 : goal.bounds-words-0
-bounds-words-0 c = omega (arith, (node-known c.requires.markable 0 c.requires.markable.sound.shaped.nonempty).node.listed, c.requires.labels_len.1)
+bounds-words-0 c = omega (arith, (node-known c.requires.markable 0 c.requires.markable.sound.shaped.nonempty).node.listed, c.requires.words_len)
 
 -- src/rows.rt:53:16
 pub overflow_cast-words-2 : goal.overflow_cast-words-2
@@ -41,11 +41,11 @@ overflow_cast-words-2 c = let node = node-known c.requires.markable 0 c.requires
 
 -- src/rows.rt:53:5
 pub bounds-words-1 : goal.bounds-words-1
-bounds-words-1 c = simp length-set (omega (arith, (node-known c.requires.markable 0 c.requires.markable.sound.shaped.nonempty).node.listed, c.requires.labels_len.1))
+bounds-words-1 c = simp length-set (omega (arith, (node-known c.requires.markable 0 c.requires.markable.sound.shaped.nonempty).node.listed, c.requires.words_len))
 
 -- src/rows.rt:55:5
 pub loop-v-init : goal.loop-v-init
-loop-v-init c = (omega arith, c.requires.markable, rows_start c.args.words.now c.requires.markable c.requires.labels_len.1)
+loop-v-init c = (omega arith, c.requires.markable, rows_start c.args.words.now c.requires.markable c.requires.words_len)
 
 -- src/rows.rt:56:65
 pub overflow_mul-v : goal.overflow_mul-v
@@ -57,7 +57,7 @@ overflow_mul-v c =
 pub label_from-requires : goal.label_from-requires
 label_from-requires c =
     let turn = c.loop-v in
-    let start = c.requires.labels_len.0 in
+    let start = c.requires.labels_len in
     (omega (arith, start.0, (row-known c.loop-v.invariant.1 c.loop-v-test.true c.loop-v.invariant.2).small), start.1 turn.v c.loop-v-test.true)
 
 -- src/rows.rt:56:9
@@ -119,7 +119,7 @@ loop-v-preserved c =
     (omega (arith, test), turn.invariant.1, rows_next turn.invariant.1 test turn.invariant.2 (c.put_label.ensures ∙ ap (put_label turn.words turn.at) c.label_from.ensures) c.keep_row-at.ensures)
 
 pub shape_of-words : goal.shape_of-words
-shape_of-words c = c.loop-v.invariant.2.long ∙ sym c.requires.labels_len.1
+shape_of-words c = c.loop-v.invariant.2.long ∙ sym c.requires.words_len
 
 pub returns : goal.returns
-returns c = rows-done c.loop-v.invariant.2 c.loop-v.invariant.numbers c.loop-v-test.false
+returns c = rows-done c.loop-v.invariant.2 c.loop-v.invariant.0 c.loop-v-test.false
