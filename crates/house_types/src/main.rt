@@ -8,7 +8,6 @@ ghost use Rattle.house.specs.House.{meets};
 ghost use Rattle.text.specs.Text.{Puts};
 ghost use Rattle.house_types.specs.Text.{after as after_of, text_of};
 
-use libc::{STDERR_FILENO, STDOUT_FILENO};
 use text::put_decimal;
 
 // What stands behind entry k: a line end behind the last entry of a row, else a space.
@@ -36,10 +35,10 @@ fn put_meets(out: &mut [u8]) -> usize
     at
 }
 
-fn main() {
+fn main(rt: HostRuntime) {
     let mut text = [0u8; 12288];
     let end = put_meets(&mut text);
-    if !io::write_all(STDOUT_FILENO, &text[..end]) {
-        io::write_all(STDERR_FILENO, b"house_types: the table cannot be written\n");
+    if rt.write_all(&text[..end]).is_err() {
+        let _ = rt.eprint("house_types: the table cannot be written\n");
     }
 }

@@ -1,17 +1,34 @@
 // Reads what is asked for from standard input, and prints the one line that answers it. This program knows `request` alone. A line that cannot be
-// written whole is told on standard error. A program of this language has no exit status of its own.
+// written whole is told on standard error. The exit status says nothing.
 
 #![tactic(auto)]
 
-use libc::{STDERR_FILENO, STDIN_FILENO, STDOUT_FILENO};
+ghost use Rattle.std.specs.Prelude.{◌≤◌, length};
 
-fn main() {
+use std::io::Read;
+
+// Reads until the buffer is full, the input ends or a read fails, and answers how many bytes are read.
+fn read_full(input: &mut impl Read, buffer: &mut [u8]) -> usize
+    ensures { result ≤ length buffer.new }
+{
+    let mut count = 0;
+    while count < buffer.len() {
+        match input.read(&mut buffer[count..]) {
+            Ok(0) => return count,
+            Ok(more) => count += more,
+            Err(_) => return count,
+        }
+    }
+    count
+}
+
+fn main(rt: HostRuntime) {
     // One byte more than the longest input that is not bad.
     let mut input = [0u8; 18431];
-    let count = io::read_full(STDIN_FILENO, &mut input);
+    let count = read_full(&mut rt.stdin(), &mut input);
     let line = request::line(&input[..count]);
     let bytes = line.bytes;
-    if !io::write_all(STDOUT_FILENO, &bytes[..line.count]) {
-        io::write_all(STDERR_FILENO, b"mapcalc: the line cannot be written\n");
+    if rt.write_all(&bytes[..line.count]).is_err() {
+        let _ = rt.eprint("mapcalc: the line cannot be written\n");
     }
 }

@@ -5,4 +5,4 @@ use lib.Seq.{length-take-le}
 use Rattle.house_types.proofs.main.Goals as goal
 
 pub slice_bounds-write_all-end : goal.slice_bounds-write_all-end
-slice_bounds-write_all-end c = sym (length-take-le _ _ (omega (arith, c.put_meets-end.ensures.0)))
+slice_bounds-write_all-end c = sym (length-take-le _ _ (omega (arith, c.put_meets-end.ensures.room)))

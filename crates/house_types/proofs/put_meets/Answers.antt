@@ -25,4 +25,6 @@ pub shape_of-out : goal.shape_of-out
 shape_of-out c = c.loop-k.invariant.size
 
 pub returns : goal.returns
-returns c = print-end c.loop-k.invariant c.loop-k-test.false
+returns c =
+    let done = print-end c.loop-k.invariant c.loop-k-test.false in
+    record { room = done.0; text = done.1 }

@@ -1,0 +1,9 @@
+-- `read_full` meets its contract. The loop's invariant: what is read fits in the buffer, whose length stays.
+use Rattle.std.proofs.Common.{length, ◌-◌, ◌≤◌}
+use Rattle.mapcalc.proofs.read_full.Given as goal
+
+abbrev pub invariant-loop-count : goal.invariant-loop-count
+invariant-loop-count g l = l.count ≤ length l.buffer
+
+abbrev pub decreases-loop-count : goal.decreases-loop-count
+decreases-loop-count g l = length l.initial.buffer - l.count
