@@ -27,7 +27,7 @@ pub returns-then-not-is_label_in_range : goal.returns-then-not-is_label_in_range
 returns-then-not-is_label_in_range c =
     let tested = c.is_label_in_range in
     label-out c.loop-v-test.true
-    (sym (ap (label_in_range c.args.n) c.label_at.ensures) ∙ sym tested.ensures ∙ not-true tested.result (ap not c.if-not-is_label_in_range.true))
+    (sym (ap (label_in_range c.args.n) c.label_at.ensures) ∙ sym tested.ensures ∙ c.if-not-is_label_in_range.true)
 
 pub count_row-requires : goal.count_row-requires
 count_row-requires c = (record { v_bound = c.loop-v-test.true; counted = c.loop-v.invariant.1.counted })
@@ -35,7 +35,7 @@ count_row-requires c = (record { v_bound = c.loop-v-test.true; counted = c.loop-
 pub returns-then-not-count_row : goal.returns-then-not-count_row
 returns-then-not-count_row c =
     target-out c.loop-v-test.true c.count_row.ensures
-    (not-true c.count_row.result (ap not c.if-not-count_row.true))
+    c.if-not-count_row.true
 
 pub loop-v-smaller : goal.loop-v-smaller
 loop-v-smaller c = omega arith
@@ -47,8 +47,8 @@ loop-v-preserved c =
       search rules,
       passed-more c.loop-v.invariant.1
           (sym (ap (label_in_range c.args.n) c.label_at.ensures) ∙ sym tested.ensures
-          ∙ not-false tested.result (ap not c.if-not-is_label_in_range.false))
-          c.count_row.ensures (not-false c.count_row.result c.if-not-count_row.false),
+          ∙ c.if-not-is_label_in_range.false)
+          c.count_row.ensures c.if-not-count_row.false,
     )
 
 pub returns : goal.returns

@@ -18,7 +18,7 @@ returns-then-n-kind c = over-out c.args.n (stated c.args.label) (omega (arith, c
 pub returns-then-not-ranged : goal.returns-then-not-ranged
 returns-then-not-ranged c =
     let l : Label = stated c.args.label in
-    c.if-not-ranged.true ∙ sym (le-leb l.lowest l.highest (c.requires (not-true c.args.ranged (ap not c.if-not-ranged.true)))) ∙
+    ap not c.if-not-ranged.true ∙ sym (le-leb l.lowest l.highest (c.requires c.if-not-ranged.true)) ∙
     levels-decide c.args.n l c.if-kind-eq0.false (omega (arith, c.if-n-kind.false)) (omega (arith, c.well_formed))
 
 pub returns-else-not-ranged : goal.returns-else-not-ranged

@@ -1,4 +1,3 @@
-use mathlib.Core.Logic.{⊎_elim}
 use Prim.Native.Nat.{◌-◌}
 use native.Mathlib.Omega.{arith}
 use Rattle.layout.proofs.Places.{sized}
@@ -6,6 +5,7 @@ use Rattle.peeling.proofs.Passes.{peeling-start, peeling-few, next-inside, peeli
 use borrow.Author.Rules.{rules}
 use borrow.Author.Tests.{eqb-true, eqb-false}
 use Rattle.peeling.proofs.sources_first.Goals as goal
+use Rattle.peeling.proofs.sources_first.Goals.{else-sources-eq1-via-then-sources-eq1+else-queue-eq0, else-sources-eq1-via-else-sources-eq1}
 
 pub bounds-graph-0 : goal.bounds-graph-0
 bounds-graph-0 c = sized c.requires.sound
@@ -39,9 +39,13 @@ returns-then-count-nodes c = peels-cyclic c.loop-next.invariant c.loop-next-test
 
 pub returns-then-queue-eq0 : goal.returns-then-queue-eq0
 returns-then-queue-eq0 c =
-    peels-rooted c.loop-next.invariant c.loop-next-test.false c.if-count-nodes.false c.if-sources-eq1.true (eqb-true _ _ c.if-queue-eq0.true)
+    peels-rooted c.loop-next.invariant c.loop-next-test.false c.if-count-nodes.false c.if-sources-eq1.true c.if-queue-eq0.true
 
 pub returns : goal.returns
 returns c =
     peels-apart c.loop-next.invariant c.loop-next-test.false c.if-count-nodes.false
-    (λ single root. ⊎_elim (λ w. eqb-false _ _ w.1.left root) (λ w. w.left single) c.else-sources-eq1.branch)
+    (λ single root.
+    elim c.else-sources-eq1.branch [
+      else-sources-eq1-via-then-sources-eq1+else-queue-eq0 w ↦ w.if-queue-eq0.false root
+    | else-sources-eq1-via-else-sources-eq1 w ↦ w.if-sources-eq1.false single
+    ])

@@ -1,10 +1,10 @@
-use mathlib.Core.Logic.{⊎_elim}
 use mathlib.Core.Path.{ap}
 use Prim.Native.Nat.{ℕ, ◌+◌, ◌-◌}
 use native.Mathlib.Omega.{arith}
 use lib.ListN.{get_or}
 use Rattle.peeling.proofs.Counting.{due-listed, row-start, row-place, row_inside_lem, still-entered, row_room, row_stays, row-joins, row_done}
 use Rattle.peeling.proofs.take_links.Goals as goal
+use Rattle.peeling.proofs.take_links.Goals.{then-left-eq0, else-left-eq0}
 
 pub bounds-graph-v : goal.bounds-graph-v
 bounds-graph-v c = due-listed c.requires
@@ -58,10 +58,12 @@ overflow_add-k c = omega (arith, c.type_inv.graph (c.args.v + 2))
 pub loop-k-preserved : goal.loop-k-preserved
 loop-k-preserved c =
     let is = c.target-w.ensures in
-    ⊎_elim
-    (λ w. rw (w.1, w.2, is) (row-joins c.loop-k.invariant c.loop-k-test.true (rw is at w.0.taken)))
-    (λ w. rw (w.1, w.2, is) (row_stays c.loop-k.invariant c.loop-k-test.true (rw is at w.0.left)))
-    c.if-left-eq0.branch
+    elim c.if-left-eq0.branch [
+      then-left-eq0 w ↦
+      rw (w.queue-is, w.count-is, is) (row-joins c.loop-k.invariant c.loop-k-test.true (rw is at w.if-left-eq0.true))
+    | else-left-eq0 w ↦
+      rw (w.queue-is, w.count-is, is) (row_stays c.loop-k.invariant c.loop-k-test.true (rw is at w.if-left-eq0.false))
+    ]
 
 pub returns : goal.returns
 returns c = row_done c.loop-k.invariant c.loop-k-test.false

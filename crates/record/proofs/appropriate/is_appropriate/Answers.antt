@@ -20,7 +20,7 @@ pub is_row_appropriate-requires : goal.is_row_appropriate-requires
 is_row_appropriate-requires c = (record { listed = c.requires.listed; typed = (c.requires.typed, c.loop-v-test.true) })
 
 pub returns-then-not-is_row_appropriate : goal.returns-then-not-is_row_appropriate
-returns-then-not-is_row_appropriate c = rows_out c.args.table.now c.args.list.now c.args.graph.now c.loop-v.v c.loop-v-test.true (sym c.is_row_appropriate.ensures ∙ not-true c.is_row_appropriate.result (ap not c.if-not-is_row_appropriate.true))
+returns-then-not-is_row_appropriate c = rows_out c.args.table.now c.args.list.now c.args.graph.now c.loop-v.v c.loop-v-test.true (sym c.is_row_appropriate.ensures ∙ c.if-not-is_row_appropriate.true)
 
 pub overflow_add-v : goal.overflow_add-v
 overflow_add-v c = omega (arith, c.type_inv.graph 0)
@@ -29,7 +29,7 @@ pub loop-v-smaller : goal.loop-v-smaller
 loop-v-smaller c = omega arith
 
 pub loop-v-preserved : goal.loop-v-preserved
-loop-v-preserved c = rows_more c.loop-v.invariant c.loop-v-test.true (sym c.is_row_appropriate.ensures ∙ not-false c.is_row_appropriate.result (ap not c.if-not-is_row_appropriate.false))
+loop-v-preserved c = rows_more c.loop-v.invariant c.loop-v-test.true (sym c.is_row_appropriate.ensures ∙ c.if-not-is_row_appropriate.false)
 
 pub returns : goal.returns
 returns c = rows_all c.loop-v.invariant c.loop-v-test.false

@@ -39,7 +39,7 @@ is_below-requires c = let kind = row-kind c.loop-k.invariant in
     (omega arith, rw c.feature-f.ensures (omega arith))
 
 pub returns-then-not-is_below : goal.returns-then-not-is_below
-returns-then-not-is_below c = row_out c.loop-k.invariant c.loop-k-test.true (sym (rw c.feature-f.ensures at c.is_below.ensures) ∙ not-true c.is_below.result (ap not c.if-not-is_below.true))
+returns-then-not-is_below c = row_out c.loop-k.invariant c.loop-k-test.true (sym (rw c.feature-f.ensures at c.is_below.ensures) ∙ c.if-not-is_below.true)
 
 pub overflow_add-k : goal.overflow_add-k
 overflow_add-k c = omega (arith, c.type_inv.graph (c.args.v + 2))
@@ -48,7 +48,7 @@ pub loop-k-smaller : goal.loop-k-smaller
 loop-k-smaller c = omega arith
 
 pub loop-k-preserved : goal.loop-k-preserved
-loop-k-preserved c = row_next c.loop-k.invariant c.loop-k-test.true (sym (rw c.feature-f.ensures at c.is_below.ensures) ∙ not-false c.is_below.result (ap not c.if-not-is_below.false))
+loop-k-preserved c = row_next c.loop-k.invariant c.loop-k-test.true (sym (rw c.feature-f.ensures at c.is_below.ensures) ∙ c.if-not-is_below.false)
 
 pub returns : goal.returns
 returns c = row-all c.loop-k.invariant c.loop-k-test.false

@@ -13,10 +13,10 @@ is_appropriate-requires c = (record {
 })
 
 pub returns-then-not-is_appropriate : goal.returns-then-not-is_appropriate
-returns-then-not-is_appropriate c = reads-inappropriate c.args.n c.args.table.now c.args.list.now c.args.bytes.now c.read-verdict.ensures c.in-Accepted.is (sym c.is_appropriate.ensures ∙ not-true c.is_appropriate.result (ap not c.if-not-is_appropriate.true))
+returns-then-not-is_appropriate c = reads-inappropriate c.args.n c.args.table.now c.args.list.now c.args.bytes.now c.read-verdict.ensures c.in-Accepted.is (sym c.is_appropriate.ensures ∙ c.if-not-is_appropriate.true)
 
 pub returns-in-Refused : goal.returns-in-Refused
 returns-in-Refused c = reads-refused c.args.n c.args.table.now c.args.list.now c.args.bytes.now c.read-verdict.ensures _ c.in-Refused.is
 
 pub returns-else-not-is_appropriate : goal.returns-else-not-is_appropriate
-returns-else-not-is_appropriate c = reads-appropriate c.args.n c.args.table.now c.args.list.now c.args.bytes.now c.read-verdict.ensures c.in-Accepted.is (sym c.is_appropriate.ensures ∙ not-false c.is_appropriate.result (ap not c.if-not-is_appropriate.false))
+returns-else-not-is_appropriate c = reads-appropriate c.args.n c.args.table.now c.args.list.now c.args.bytes.now c.read-verdict.ensures c.in-Accepted.is (sym c.is_appropriate.ensures ∙ c.if-not-is_appropriate.false)
