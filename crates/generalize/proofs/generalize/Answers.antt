@@ -10,13 +10,13 @@ use Rattle.generalize.specs.Product.{product_out}
 use Rattle.generalize.proofs.generalize.Goals as goal
 
 pub bounds-a-0 : goal.bounds-a-0
-bounds-a-0 c = omega (arith, directory c.requires.0.sound.shaped)
+bounds-a-0 c = omega (arith, directory c.requires.recorded.sound.shaped)
 
 pub bounds-b-0 : goal.bounds-b-0
-bounds-b-0 c = omega (arith, directory c.requires.1.0.sound.shaped)
+bounds-b-0 c = omega (arith, directory c.requires.recorded_2.sound.shaped)
 
 pub generalize_in-requires : goal.generalize_in-requires
-generalize_in-requires c = let p = c.requires in (p.0, (p.1.0, (p.1.1.0, (p.1.1.1, (omega (arith, length-replicate {A = ℕ} 1024 0), omega (arith, length-replicate {A = ℕ} 1024 0))))))
+generalize_in-requires c = let p = c.requires in record { recorded = p.recorded; recorded_2 = p.recorded_2; joinable = p.joinable; seekable = p.seekable; in_bounds = (omega (arith, length-replicate {A = ℕ} 1024 0), omega (arith, length-replicate {A = ℕ} 1024 0)) }
 
 pub returns-in-Written : goal.returns-in-Written
 returns-in-Written c = c.generalize_in.ensures.written _ c.in-Written.is

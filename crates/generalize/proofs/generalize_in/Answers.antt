@@ -15,10 +15,10 @@ use Rattle.generalize.proofs.Result.{found-written, found-too-few, too_large, ma
 use Rattle.generalize.proofs.generalize_in.Goals as goal
 
 pub bounds-words-1 : goal.bounds-words-1
-bounds-words-1 c = omega (arith, c.requires.1.1.1.1.0)
+bounds-words-1 c = omega (arith, c.requires.in_bounds.0)
 
 pub loop-head-init : goal.loop-head-init
-loop-head-init c = (build-start (join_in c.args.n c.args.sets.now c.args.cells.now) c.requires.0 c.requires.1.0 (c.args.n, c.requires.1.1.0) (replicate 65025 255) (replicate 255 0) c.args.words.now (length-replicate {A = ℕ} 65025 255) (λ p h. get_or-replicate {A = ℕ} 65025 p 255 0 h) (length-replicate {A = ℕ} 255 0) (get_or-replicate {A = ℕ} 255 0 0 0 (omega arith)) c.requires.1.1.1.1.0 c.requires.1.1.1.1.1, omega arith, refl)
+loop-head-init c = (build-start (join_in c.args.n c.args.sets.now c.args.cells.now) c.requires.recorded c.requires.recorded_2 (c.args.n, c.requires.joinable) (replicate 65025 255) (replicate 255 0) c.args.words.now (length-replicate {A = ℕ} 65025 255) (λ p h. get_or-replicate {A = ℕ} 65025 p 255 0 h) (length-replicate {A = ℕ} 255 0) (get_or-replicate {A = ℕ} 255 0 0 0 (omega arith)) c.requires.in_bounds.0 c.requires.in_bounds.1, omega arith, refl)
 
 pub overflow_add-at : goal.overflow_add-at
 overflow_add-at c = omega (arith, c.loop-head-test.true, c.loop-head.invariant.0.marked.few, c.loop-head.invariant.1)
@@ -45,7 +45,7 @@ pub label_at-requires-in-loop-head : goal.label_at-requires-in-loop-head
 label_at-requires-in-loop-head c = (c.loop-head.invariant.0.right.sound.shaped, (c.loop-head.invariant.0.inside c.loop-head.head c.loop-head-test.true).1)
 
 pub join-label-requires : goal.join-label-requires
-join-label-requires c = let able = c.requires.1.1.0 in let turn = c.loop-head in let inside = turn.invariant.0.inside turn.head c.loop-head-test.true in ((omega (arith, ap (λ (l : Label). l.type) c.label_at.ensures, (able.left _ inside.0).type), omega (arith, ap (λ (l : Label). l.type) c.label_at-in-loop-head.ensures, (able.right _ inside.1).type), able.few), c.requires.1.1.1.0)
+join-label-requires c = let able = c.requires.joinable in let turn = c.loop-head in let inside = turn.invariant.0.inside turn.head c.loop-head-test.true in record { kind_lt_n = (omega (arith, ap (λ (l : Label). l.type) c.label_at.ensures, (able.left _ inside.0).type), omega (arith, ap (λ (l : Label). l.type) c.label_at-in-loop-head.ensures, (able.right _ inside.1).type), able.few); seekable = c.requires.seekable }
 
 pub put_label-requires : goal.put_label-requires
 put_label-requires c = omega (arith, c.if-words-at.false)
@@ -54,10 +54,10 @@ pub overflow_add-known : goal.overflow_add-known
 overflow_add-known c = omega (arith, c.loop-head-test.true, c.loop-head.invariant.0.marked.few, c.loop-head.invariant.1)
 
 pub pair_links-spread-requires : goal.pair_links-spread-requires
-pair_links-spread-requires c = let s = c.loop-head.invariant.0 in let same = ap length c.put_label.ensures ∙ length-put c.loop-head.words c.loop-head.at _ in (s.left, (s.right, (s.inside c.loop-head.head c.loop-head-test.true, (s.marked, (omega (arith, same, c.if-words-at.false), omega (arith, same, s.long))))))
+pair_links-spread-requires c = let s = c.loop-head.invariant.0 in let same = ap length c.put_label.ensures ∙ length-put c.loop-head.words c.loop-head.at _ in record { recorded = s.left; recorded_2 = s.right; u_bound = s.inside c.loop-head.head c.loop-head-test.true; marked = s.marked; at_in_bounds = (omega (arith, same, c.if-words-at.false), omega (arith, same, s.long)) }
 
 pub shape_of-words-then-count-gt255 : goal.shape_of-words-then-count-gt255
-shape_of-words-then-count-gt255 c = c.pair_links-spread.auto.1.1.1.1.1.1.0 ∙ ap length c.put_label.ensures ∙ length-put c.loop-head.words c.loop-head.at _ ∙ c.loop-head.invariant.2 ∙ length-set {A = ℕ} c.args.words.now 1 257
+shape_of-words-then-count-gt255 c = c.pair_links-spread.auto.words ∙ ap length c.put_label.ensures ∙ length-put c.loop-head.words c.loop-head.at _ ∙ c.loop-head.invariant.2 ∙ length-set {A = ℕ} c.args.words.now 1 257
 
 pub returns-then-count-gt255 : goal.returns-then-count-gt255
 returns-then-count-gt255 c = let s = c.loop-head.invariant.0 in found-written (sym (too_large (join_in c.args.n c.args.sets.now c.args.cells.now) s.left s.right c.args.out.now (inl (many-pairs s c.loop-head-test.true (c.pair_links-spread.ensures.full c.if-count-gt255.true)))))
@@ -102,7 +102,7 @@ pub overflow_cast-words-2 : goal.overflow_cast-words-2
 overflow_cast-words-2 c = omega (arith, c.loop-head.invariant.0.marked.few)
 
 pub bounds-words-0 : goal.bounds-words-0
-bounds-words-0 c = omega (arith, c.loop-head.invariant.2, length-set {A = ℕ} c.args.words.now 1 257, c.requires.1.1.1.1.0)
+bounds-words-0 c = omega (arith, c.loop-head.invariant.2, length-set {A = ℕ} c.args.words.now 1 257, c.requires.in_bounds.0)
 
 pub write-requires : goal.write-requires
 write-requires c = build-sound c.loop-head.invariant.0 (omega (arith, c.loop-head-test.false))

@@ -6,19 +6,19 @@ use Rattle.product.proofs.Merging.{merge-start, merge-ended, merge-left, merge-r
 use Rattle.product.proofs.pair_links.Goals as goal
 
 pub bounds-a-u : goal.bounds-a-u
-bounds-a-u c = (c.requires.0.sound.shaped.node c.args.u c.requires.1.1.0.0).listed
+bounds-a-u c = (c.requires.recorded.sound.shaped.node c.args.u c.requires.u_bound.0).listed
 
 pub overflow_cast-a_end : goal.overflow_cast-a_end
 overflow_cast-a_end c = omega (arith, c.type_inv.a (c.args.u + 2))
 
 pub bounds-b-v : goal.bounds-b-v
-bounds-b-v c = (c.requires.1.0.sound.shaped.node c.args.v c.requires.1.1.0.1).listed
+bounds-b-v c = (c.requires.recorded_2.sound.shaped.node c.args.v c.requires.u_bound.1).listed
 
 pub overflow_cast-b_end : goal.overflow_cast-b_end
 overflow_cast-b_end c = omega (arith, c.type_inv.b (c.args.v + 2))
 
 pub bounds-a-u-2 : goal.bounds-a-u-2
-bounds-a-u-2 c = omega (arith, (c.requires.0.sound.shaped.node c.args.u c.requires.1.1.0.0).listed)
+bounds-a-u-2 c = omega (arith, (c.requires.recorded.sound.shaped.node c.args.u c.requires.u_bound.0).listed)
 
 pub overflow_cast-i : goal.overflow_cast-i
 overflow_cast-i c = omega (arith, c.type_inv.a (c.args.u + 1))
@@ -27,7 +27,7 @@ pub overflow_add-i-2 : goal.overflow_add-i-2
 overflow_add-i-2 c = omega (arith, c.type_inv.a (c.args.u + 1))
 
 pub bounds-b-v-2 : goal.bounds-b-v-2
-bounds-b-v-2 c = omega (arith, (c.requires.1.0.sound.shaped.node c.args.v c.requires.1.1.0.1).listed)
+bounds-b-v-2 c = omega (arith, (c.requires.recorded_2.sound.shaped.node c.args.v c.requires.u_bound.1).listed)
 
 pub overflow_cast-j : goal.overflow_cast-j
 overflow_cast-j c = omega (arith, c.type_inv.b (c.args.v + 1))
@@ -36,7 +36,7 @@ pub overflow_add-j-2 : goal.overflow_add-j-2
 overflow_add-j-2 c = omega (arith, c.type_inv.b (c.args.v + 1))
 
 pub loop-i-init : goal.loop-i-init
-loop-i-init c = (refl, refl, merge-start (record { left = c.requires.0; right = c.requires.1.0; left-node = c.requires.1.1.0.0; right-node = c.requires.1.1.0.1; long = c.requires.1.1.1.1.1; low = c.requires.1.1.1.1.0; left_end = omega (arith, c.type_inv.a (c.args.u + 2)); right_end = omega (arith, c.type_inv.b (c.args.v + 2)) }) c.requires.1.1.1.0)
+loop-i-init c = (refl, refl, merge-start (record { left = c.requires.recorded; right = c.requires.recorded_2; left-node = c.requires.u_bound.0; right-node = c.requires.u_bound.1; long = c.requires.at_in_bounds.1; low = c.requires.at_in_bounds.0; left_end = omega (arith, c.type_inv.a (c.args.u + 2)); right_end = omega (arith, c.type_inv.b (c.args.v + 2)) }) c.requires.marked)
 
 pub shape_of-words-then-b_end-j : goal.shape_of-words-then-b_end-j
 shape_of-words-then-b_end-j c = c.loop-i.invariant.2.added.long
@@ -87,7 +87,11 @@ pub overflow_add-pair : goal.overflow_add-pair
 overflow_add-pair c = omega arith
 
 pub enlist-count-requires : goal.enlist-count-requires
-enlist-count-requires c = (c.loop-i.invariant.2.added.after, omega (arith, merge-nodes c.loop-i.invariant.2 (omega (arith, c.loop-i-test.true, c.loop-i.invariant.0)) (omega (arith, c.if-b_end-j.false, c.loop-i.invariant.1))))
+enlist-count-requires c =
+    record {
+      marked = c.loop-i.invariant.2.added.after;
+      pair_bound = omega (arith, merge-nodes c.loop-i.invariant.2 (omega (arith, c.loop-i-test.true, c.loop-i.invariant.0)) (omega (arith, c.if-b_end-j.false, c.loop-i.invariant.1)));
+    }
 
 pub shape_of-words-then-count-gt255 : goal.shape_of-words-then-count-gt255
 shape_of-words-then-count-gt255 c = c.loop-i.invariant.2.added.long

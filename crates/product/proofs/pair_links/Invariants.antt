@@ -7,7 +7,7 @@ use Rattle.product.proofs.pair_links.Given as goal
 
 abbrev pub invariant-loop-i : goal.invariant-loop-i
 invariant-loop-i l =
-    (l.a_end ≡ row_end l.a l.u) × (l.b_end ≡ row_end l.b l.v) × Merging l.a l.b l.u l.v l.initial.queue l.initial.words (record { l.at = l.initial.at; l.count = l.initial.count }) l.i l.j l.marks l.queue l.words (record { l.at = l.at; l.count = l.count })
+    (l.a_end ≡ row_end l.a l.u) × (l.b_end ≡ row_end l.b l.v) × Merging l.a l.b l.u l.v l.initial.queue l.initial.words (record { at = l.initial.at; count = l.initial.count }) l.i l.j l.marks l.queue l.words (record { at = l.at; count = l.count })
 
 abbrev pub decreases-loop-i : goal.decreases-loop-i
 decreases-loop-i l =

@@ -15,5 +15,5 @@ merge_within-requires c =
       operand = p.operand;
       operand_2 = p.operand_2;
       spacious =
-        (spacious p.operand.recorded p.operand_2.recorded {nodes = 510} {links = 4096} {width = 64} (omega (arith, p.operand.recorded.small, p.operand_2.recorded.small)) (links-most p.operand.recorded p.operand_2.recorded) (inl (omega arith)) (omega (arith, length-replicate {A = ℕ} 37692 0)) (omega (arith, length-replicate {A = ℕ} 4097 0)), p.holding);
+          (spacious p.operand.recorded p.operand_2.recorded {nodes = 510} {links = 4096} {width = 64} (omega (arith, p.operand.recorded.small, p.operand_2.recorded.small)) (links-most p.operand.recorded p.operand_2.recorded) (inl (omega arith)) (omega (arith, length-replicate {A = ℕ} 37692 0)) (omega (arith, length-replicate {A = ℕ} 4097 0)), p.holding);
     }

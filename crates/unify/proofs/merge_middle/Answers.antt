@@ -15,5 +15,5 @@ merge_within-requires c =
       operand = p.operand;
       operand_2 = p.operand_2;
       spacious =
-        (spacious p.operand.recorded p.operand_2.recorded {nodes = 80} {links = 240} {width = 64} p.b_bound.0 p.b_bound.1 (inl (omega arith)) (omega (arith, length-replicate {A = ℕ} 5456 0)) (omega (arith, length-replicate {A = ℕ} 241 0)), p.holding);
+          (spacious p.operand.recorded p.operand_2.recorded {nodes = 80} {links = 240} {width = 64} p.b_bound.0 p.b_bound.1 (inl (omega arith)) (omega (arith, length-replicate {A = ℕ} 5456 0)) (omega (arith, length-replicate {A = ℕ} 241 0)), p.holding);
     }

@@ -15,5 +15,5 @@ merge_within-requires c =
       operand = p.operand;
       operand_2 = p.operand_2;
       spacious =
-        (spacious p.operand.recorded p.operand_2.recorded {nodes = 20} {links = 48} {width = 48} p.b_bound.0 p.b_bound.1 (inr (omega arith)) (omega (arith, length-replicate {A = ℕ} 1000 0)) (omega (arith, length-replicate {A = ℕ} 49 0)), p.holding);
+          (spacious p.operand.recorded p.operand_2.recorded {nodes = 20} {links = 48} {width = 48} p.b_bound.0 p.b_bound.1 (inr (omega arith)) (omega (arith, length-replicate {A = ℕ} 1000 0)) (omega (arith, length-replicate {A = ℕ} 49 0)), p.holding);
     }

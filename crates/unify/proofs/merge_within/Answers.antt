@@ -47,7 +47,7 @@ pub quotient-requires : goal.quotient-requires
 quotient-requires c = let s = lay c.requires.operand.recorded c.requires.operand_2.recorded c.copy_words-at.ensures c.copy_words-used.ensures c.copy_spans.ensures c.copy_spans-2.ensures (c.copy_spans-2.ensures.start-long ∙ c.copy_spans.ensures.start-long ∙ length-replicate {A = ℕ} 510 0) (c.copy_spans-2.ensures.end-long ∙ c.copy_spans.ensures.end-long ∙ length-replicate {A = ℕ} 510 0) in record { graph_len_bound = (c.requires.spacious.1.short, c.class_labels-labels.ensures.below.1, λ x h. known_more (omega (arith, c.requires.n_nonzero.1)) (c.class_labels-labels.ensures.below.0 x h)); fillable = closed-fillable c.close.ensures s.short (omega (arith, s.headed, c.requires.spacious.1.words)) }
 
 pub shape_of-pool : goal.shape_of-pool
-shape_of-pool c = c.close.auto.start.1.1.1.1.0 ∙ c.copy_words-used.ensures.long ∙ c.copy_words-at.ensures.long
+shape_of-pool c = c.close.auto.pool ∙ c.copy_words-used.ensures.long ∙ c.copy_words-at.ensures.long
 
 pub returns : goal.returns
 returns c = let s = lay c.requires.operand.recorded c.requires.operand_2.recorded c.copy_words-at.ensures c.copy_words-used.ensures c.copy_spans.ensures c.copy_spans-2.ensures (c.copy_spans-2.ensures.start-long ∙ c.copy_spans.ensures.start-long ∙ length-replicate {A = ℕ} 510 0) (c.copy_spans-2.ensures.end-long ∙ c.copy_spans.ensures.end-long ∙ length-replicate {A = ℕ} 510 0) in record { class = _; labels = c.class_labels-labels.result; start = _; end = _; pool = _; start' = _; end' = _; pool' = _; used = _; first = s.first; second = s.second; closed = c.close.ensures; lowers = c.class_labels-labels.ensures.class_labels; below = λ x h. known_more (omega (arith, c.requires.n_nonzero.1)) (c.class_labels-labels.ensures.below.0 x h); built = c.quotient.ensures }

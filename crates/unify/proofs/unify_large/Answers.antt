@@ -15,7 +15,7 @@ merge-requires c =
       operand = p.operand;
       operand_2 = p.operand_2;
       holding =
-        holding p.operand.recorded p.operand_2.recorded {nodes = 510} {links = 4096} (omega (arith, p.operand.recorded.small, p.operand_2.recorded.small)) (links-most p.operand.recorded p.operand_2.recorded) (omega (arith, length-replicate {A = ℕ} 5628 0)) (omega (arith, length-replicate {A = ℕ} 5628 0));
+          holding p.operand.recorded p.operand_2.recorded {nodes = 510} {links = 4096} (omega (arith, p.operand.recorded.small, p.operand_2.recorded.small)) (links-most p.operand.recorded p.operand_2.recorded) (omega (arith, length-replicate {A = ℕ} 5628 0)) (omega (arith, length-replicate {A = ℕ} 5628 0));
     }
 
 pub tell-requires : goal.tell-requires

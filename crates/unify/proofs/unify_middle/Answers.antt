@@ -15,7 +15,7 @@ merge-requires c =
       operand = p.operand;
       operand_2 = p.operand_2;
       holding =
-        holding p.operand.recorded p.operand_2.recorded {nodes = 80} {links = 240} p.b_bound.0 p.b_bound.1 (omega (arith, length-replicate {A = ℕ} 482 0)) (omega (arith, length-replicate {A = ℕ} 482 0));
+          holding p.operand.recorded p.operand_2.recorded {nodes = 80} {links = 240} p.b_bound.0 p.b_bound.1 (omega (arith, length-replicate {A = ℕ} 482 0)) (omega (arith, length-replicate {A = ℕ} 482 0));
     }
 
 pub tell-requires : goal.tell-requires

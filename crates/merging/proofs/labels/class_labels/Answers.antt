@@ -25,7 +25,7 @@ lower-requires c =
       recorded = p.operand_2.recorded;
       shift_bound = (p.operand.recorded.small, e.labels_len.0);
       lowerable =
-        (record { few = p.n_nonzero.1; meets-below = p.meeting.below; labelled = p.operand_2.labelled; below = e.labels_len.1 }, p.meeting.ready);
+          (record { few = p.n_nonzero.1; meets-below = p.meeting.below; labelled = p.operand_2.labelled; below = e.labels_len.1 }, p.meeting.ready);
       by_index = λ v h. p.by_index (size c.args.a.now + v) (omega (arith, h));
     }
 
@@ -37,7 +37,7 @@ lower-requires-2 c =
       recorded = p.operand.recorded;
       shift_bound = (omega arith, f.labels_len);
       lowerable =
-        (record { few = p.n_nonzero.1; meets-below = p.meeting.below; labelled = p.operand.labelled; below = f.below }, p.meeting.ready);
+          (record { few = p.n_nonzero.1; meets-below = p.meeting.below; labelled = p.operand.labelled; below = f.below }, p.meeting.ready);
       by_index = λ v h. p.by_index (0 + v) (omega (arith, h));
     }
 
@@ -51,8 +51,8 @@ returns c =
     record {
       below = (g.below, g.labels_len);
       class_labels = λ x h.
-        let l : x < 510 = omega (arith, p.operand.recorded.small, p.operand_2.recorded.small) in
-        g.lowers x l ∙
-        ap (lowered (meet_in a.n a.sets.now a.cells.now) a.a.now a.class.now 0 x)
-        (f.lowers x l ∙ ap (lowered (meet_in a.n a.sets.now a.cells.now) a.b.now a.class.now (size a.a.now) x) (e.by_index x h));
+          let l : x < 510 = omega (arith, p.operand.recorded.small, p.operand_2.recorded.small) in
+          g.lowers x l ∙
+          ap (lowered (meet_in a.n a.sets.now a.cells.now) a.a.now a.class.now 0 x)
+          (f.lowers x l ∙ ap (lowered (meet_in a.n a.sets.now a.cells.now) a.b.now a.class.now (size a.a.now) x) (e.by_index x h));
     }

@@ -50,7 +50,7 @@ meet-lower-requires c =
     let p = (c.requires.by_index (c.loop-v.v - 1) (omega (arith, c.loop-v-test.true, c.loop-v.invariant.most))) in
     record {
       kind_lt_n =
-        (omega (arith, ap (λ (l : Label). l.type) c.label_at.ensures, (node-known s able h p).type), omega (arith, ap (λ (l : Label). l.type) c.label_from.ensures, (class-known s able h p).type), able.few);
+          (omega (arith, ap (λ (l : Label). l.type) c.label_at.ensures, (node-known s able h p).type), omega (arith, ap (λ (l : Label). l.type) c.label_from.ensures, (class-known s able h p).type), able.few);
       seekable = c.requires.lowerable.1;
     }
 
