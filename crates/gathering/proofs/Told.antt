@@ -1,18 +1,15 @@
 -- The length that a reply tells, and what settling the length leaves.
-use mathlib.Core.Path.{◌≡◌, refl, sym, ◌∙◌, ap, subst}
+use mathlib.Core.Path.{◌≡◌, refl, sym, ◌∙◌, ap}
 use mathlib.Core.List.{List, [], ◌∷◌, ◌++◌}
 use mathlib.Core.Option.{Option, none, some}
 use Prim.Native.Nat.{ℕ, ◌+◌}
 use native.Mathlib.Omega.{arith}
-use denote.Enum.Declared.{tag_of}
-use types.Run.{OneOf, miss}
 use lib.ListN.{take, drop}
 use Rattle.replies.specs.declared.answers.Answer.{Answer}
 use Rattle.replies.specs.declared.answers.Answer.TheVariants as answer
 use Rattle.replies.specs.declared.Reply.{Reply}
 use Rattle.replies.specs.declared.Reply.TheVariants.{Length}
 use Rattle.replies.specs.Reply.{resulting, answer_of, length_of, length_in}
-use Rattle.replies.specs.contracts.Reply.{the_type}
 use Rattle.replies.proofs.Numbers.{answer-injective}
 use Rattle.gathering.specs.Gathering.{two_bytes}
 use Rattle.gathering.specs.Joined.{settled_for, settled_at}
@@ -35,20 +32,13 @@ length-told r l e = answer-injective r (Length l) (go (answer_of r) e)
     go (answer.Refused number) q = none-some q
     go (answer.RefusedGraph number side) q = none-some q
 
--- the places of the replies that tell no length
-abbrev pub others : List ℕ
-others = 1 ∷ 2 ∷ 3 ∷ 4 ∷ 5 ∷ 6 ∷ 7 ∷ 8 ∷ 9 ∷ 10 ∷ 11 ∷ 12 ∷ 13 ∷ 14 ∷ 15 ∷ 16 ∷ 17 ∷ 18 ∷ 19 ∷ 20 ∷ 21 ∷ 22 ∷ 23 ∷ 24 ∷ []
-
--- A reply at one of these places tells no length.
-pub not-length : (r : Reply) → OneOf others (tag_of the_type r) → (l : ℕ) → r ≡ Length l → ⊥
-not-length r other l e = miss others 0 tt (subst (λ (q : Reply). OneOf others (tag_of the_type q)) e other)
-
-pub no_length : (r : Reply) → OneOf others (tag_of the_type r) → length_of r ≡ none
+-- A reply that is no `Length` tells no length.
+pub no_length : (r : Reply) → ((l : ℕ) → r ≡ Length l → ⊥) → length_of r ≡ none
 no_length r other = go (length_of r) refl
   where
     go : (o : Option ℕ) → length_of r ≡ o → length_of r ≡ none
     go none e = e
-    go (some l) e = absurd (not-length r other l (length-told r l e))
+    go (some l) e = absurd (other l (length-told r l e))
 
 module _ (at : ℕ) (state : List ℕ) (reply : Reply) where
   -- Any other reply leaves the state as it was.

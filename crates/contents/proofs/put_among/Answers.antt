@@ -44,7 +44,7 @@ shape_of-state-in_default c = c.is_held.ensures.long ∙ sym c.requires.1
 pub returns-in_default : goal.returns-in_default
 returns-in_default c =
     put_refused c.is_held.ensures c.if-not-is_held.false c.args.state.now c.requires.1 c.args.version c.args.bytes.now
-    c.write_program-reply.ensures (no_length c.write_program-reply.result c.in_default.keys2)
+    c.write_program-reply.ensures (no_length c.write_program-reply.result c.in_default.not-Length)
 
 pub shape_of-state-then-version-ge-VERSIONS : goal.shape_of-state-then-version-ge-VERSIONS
 shape_of-state-then-version-ge-VERSIONS c = c.is_held.ensures.long ∙ sym c.requires.1

@@ -12,7 +12,7 @@ use Rattle.store.proofs.settle.Goals as goal
 pub returns-in_default : goal.returns-in_default
 returns-in_default c =
     let a = c.args in
-    settle-none a.reply a.state.now a.store.now (no_length a.reply c.in_default.keys2)
+    settle-none a.reply a.state.now a.store.now (no_length a.reply c.in_default.not-Length)
 
 pub slice_bounds-copy-end : goal.slice_bounds-copy-end
 slice_bounds-copy-end c = sym (length-take-le _ _ (c.requires.0 _ c.in-Length.is))

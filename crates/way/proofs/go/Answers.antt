@@ -79,7 +79,7 @@ shape_of-state-in_default c = c.step-reply.ensures.long ∙ kept c.before.before
 
 pub returns-in_default : goal.returns-in_default
 returns-in_default c =
-    let refused = no_length c.step-reply.result c.in_default.keys2 in (
+    let refused = no_length c.step-reply.result c.in_default.not-Length in (
       c.step-reply.ensures.long ∙ kept x,
       (
         none-bounded c.step-reply.result refused _,

@@ -31,7 +31,7 @@ returns-in_default c =
     let told = c.unpack in
     opens-stops a.n a.table.now a.buffer.now c.requires.4 _ told.ensures.slotted went.ensures.1.1.0
     (went.ensures.0 ∙ c.requires.3) told.ensures (not-false told.result c.if-not-unpack.false) went.result c.requires.3
-    went.ensures.1.1.1.0 (no_length went.result c.in_default.keys2)
+    went.ensures.1.1.1.0 (no_length went.result c.in_default.not-Length)
 
 pub slice_bounds-is_start-end : goal.slice_bounds-is_start-end
 slice_bounds-is_start-end c =

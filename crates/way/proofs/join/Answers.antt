@@ -52,7 +52,7 @@ of_records-reply-requires c =
 
 pub returns-in_default : goal.returns-in_default
 returns-in_default c =
-    joins-refused (common x) (no_length c.of_records-reply.result c.in_default.keys2)
+    joins-refused (common x) (no_length c.of_records-reply.result c.in_default.not-Length)
 
 pub slice_bounds-record-end : goal.slice_bounds-record-end
 slice_bounds-record-end c = common-fits (common c.before.before.before.before) _ c.in-Length.is

@@ -35,7 +35,7 @@ joined-here x =
 
 pub returns-in_default : goal.returns-in_default
 returns-in_default c =
-    steps-large (joined-here x) (start x).args.state.now (no_length c.join-reply.result c.in_default.keys2)
+    steps-large (joined-here x) (start x).args.state.now (no_length c.join-reply.result c.in_default.not-Length)
 
 pub overflow_add-size : goal.overflow_add-size
 overflow_add-size c =

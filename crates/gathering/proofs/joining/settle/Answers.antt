@@ -4,7 +4,7 @@ use Rattle.gathering.proofs.joining.settle.Goals as goal
 
 pub returns-in_default : goal.returns-in_default
 returns-in_default c =
-    settled-none c.args.at c.args.state.now c.args.reply (no_length c.args.reply c.in_default.keys2)
+    settled-none c.args.at c.args.state.now c.args.reply (no_length c.args.reply c.in_default.not-Length)
 
 pub put_length-requires : goal.put_length-requires
 put_length-requires c = c.requires _ c.in-Length.is

@@ -2,12 +2,6 @@
 use Prim.Native.Nat.{◌-◌}
 use lib.ListN.{length}
 use Rattle.versions.proofs.Packs.{Packing}
-use Rattle.versions.proofs.packing.pack.Reads as reads
-use Rattle.versions.proofs.packing.pack.Lts as lts
-use Rattle.gathering.proofs.parts.put_length.Reads as put-length-reads
-use Rattle.versions.proofs.packing.pack_version.Reads as pack-version-reads
-use Rattle.versions.proofs.slots.map_of.Reads as map-of-reads
-use Rattle.versions.proofs.slots.put_measured.Reads as put-measured-reads
 use Rattle.versions.proofs.packing.pack.Given as goal
 
 abbrev pub invariant-loop-version : goal.invariant-loop-version

@@ -1,5 +1,6 @@
 -- `packing::part_from` meets its contract: it is the difference of two records by number, without reasons.
 use mathlib.Core.Bool.{false}
+use mathlib.Core.List.{[]}
 use Rattle.acceptance.proofs.Acceptance.{accepted-opened}
 use Rattle.calls.proofs.Differences.{plain-part, differing-accepted}
 use Rattle.versions.proofs.packing.part_from.Goals as goal

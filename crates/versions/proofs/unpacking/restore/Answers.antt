@@ -3,7 +3,6 @@ use mathlib.Core.Path.{refl, sym}
 use native.Mathlib.Omega.{arith}
 use Rattle.pairs.proofs.Readings.{optional-none}
 use Rattle.versions.proofs.Restoring.{not-restored, is-restored, restored-most, restored-inside, restored-length}
-use Rattle.gathering.proofs.Told.{not-length}
 use Rattle.versions.proofs.unpacking.restore.Goals as goal
 
 pub of_records-reply-requires : goal.of_records-reply-requires
@@ -13,7 +12,7 @@ pub returns-in_default : goal.returns-in_default
 returns-in_default c =
     let a = c.args in
     not-restored a.n a.table.now _ a.difference.now a.part.now c.requires.0.ok refl c.of_records-reply.ensures c.requires.1
-    (not-length _ c.in_default.keys2)
+    c.in_default.not-Length
 
 pub slice_bounds-record-end : goal.slice_bounds-record-end
 slice_bounds-record-end c =

@@ -1,10 +1,10 @@
 use mathlib.Core.Path.{ap}
 use mathlib.Core.Bool.{not}
-use mathlib.Core.Logic.{⊎_elim}
 use native.Mathlib.Omega.{arith}
 use Prim.Native.Nat.{◌-◌}
-use borrow.Author.Tests.{not-true, not-false}
+use borrow.Author.Tests.{not-true}
 use Rattle.versions.proofs.Unpacked.{restored-start, restored-all, restored-absent, restored-short, restored-refused, restored-present, restored_same}
+use Rattle.versions.proofs.unpacking.restore_all.Goals.{then-left-eq1+else-end-eq0+else-not-restore, else-left-eq1}
 use Rattle.versions.proofs.unpacking.restore_all.Goals as goal
 
 pub loop-version-init : goal.loop-version-init
@@ -43,10 +43,12 @@ pub loop-version-preserved : goal.loop-version-preserved
 loop-version-preserved c =
     let so = c.loop-version.invariant in
     let inside = c.loop-version-test.true in
-    ⊎_elim
-    (λ x. restored_same (restored-present so inside x.0.taken x.1.ensures x.2.left x.5.ensures (not-false x.5.result x.8.left)) x.9 x.10)
-    (λ x. restored_same (restored-absent so inside x.0.left) x.1 x.2)
-    c.if-left-eq1.branch
+    elim c.if-left-eq1.branch [
+    | then-left-eq1+else-end-eq0+else-not-restore w ↦
+      restored_same (restored-present so inside w.if-left-eq1.true w.end_at-end.ensures w.if-end-eq0.false w.restore.ensures w.if-not-restore.false)
+      w.slots-is w.at-is
+    | else-left-eq1 w ↦ restored_same (restored-absent so inside w.if-left-eq1.false) w.slots-is w.at-is
+    ]
 
 pub returns : goal.returns
 returns c = (record { slotted = c.loop-version.invariant.absent.slotted; differences_value = restored-all c.loop-version.invariant c.loop-version-test.false })

@@ -14,9 +14,6 @@ returns-then-end-eq0 c =
     let a = c.args in
     unpacks-short a.n a.table.now a.buffer.now c.requires.1 c.length_at-bits.ensures c.if-bits-eq0.false c.end_at-end.ensures c.requires.2 c.if-end-eq0.true
 
-pub slice_bounds-restore_all-end : goal.slice_bounds-restore_all-end
-slice_bounds-restore_all-end c = sym c.open-opened.ensures.long
-
 pub slice_bounds-restore_all-count : goal.slice_bounds-restore_all-count
 slice_bounds-restore_all-count c = omega (arith, c.end_at-end.ensures.whole c.if-end-eq0.false)
 
@@ -28,9 +25,6 @@ slice_bounds-restore_all-end c = omega (arith, c.end_at-end.ensures.whole c.if-e
 
 pub slice_bounds-restore_all-count-in-Accepted : goal.slice_bounds-restore_all-count-in-Accepted
 slice_bounds-restore_all-count-in-Accepted c = omega (arith, c.end_at-end.ensures.whole c.if-end-eq0.false)
-
--- LEFT slice-bounds-restore-all-start-2
--- part-restore-all-start-2 c = omega (arith, c.before.before.before.before.before.before.before.before.before.end-at.ensures.whole c.before.before.before.before.before.before.before.before.if2.false)
 
 pub restore_all-requires : goal.restore_all-requires
 restore_all-requires c = (record { ok = c.requires.0; lent = _; long = λ d. refl; holding = c.open-opened.ensures.holds c.requires.0 }, c.requires.2)
