@@ -7,11 +7,17 @@ use Rattle.record_engine.proofs.code.Goals as goal
 
 pub refusal-requires : goal.refusal-requires
 refusal-requires c =
-    (number_small c.args.reply (sym c.answer_of-answer.ensures ∙ c.in-Refused.is), search rules)
+    record {
+      number_bound = number_small c.args.reply (sym c.answer_of-answer.ensures ∙ c.in-Refused.is);
+      side_bound = search rules;
+    }
 
 pub refusal-requires-in-RefusedGraph : goal.refusal-requires-in-RefusedGraph
 refusal-requires-in-RefusedGraph c =
-    (number_small c.args.reply (sym c.answer_of-answer.ensures ∙ c.in-RefusedGraph.is), search rules)
+    record {
+      number_bound = number_small c.args.reply (sym c.answer_of-answer.ensures ∙ c.in-RefusedGraph.is);
+      side_bound = c.side_number.ensures.small;
+    }
 
 pub returns-in-Length : goal.returns-in-Length
 returns-in-Length c = ap code_for (sym c.in-Length.is ∙ c.answer_of-answer.ensures)
@@ -41,5 +47,5 @@ returns-in-Refused c =
 
 pub returns-in-RefusedGraph : goal.returns-in-RefusedGraph
 returns-in-RefusedGraph c =
-    c.refusal-in-RefusedGraph.ensures ∙ ap (refusal_code c.in-RefusedGraph.number) c.side_number.ensures.0
+    c.refusal-in-RefusedGraph.ensures ∙ ap (refusal_code c.in-RefusedGraph.number) c.side_number.ensures.is
     ∙ ap code_for (sym c.in-RefusedGraph.is ∙ c.answer_of-answer.ensures)

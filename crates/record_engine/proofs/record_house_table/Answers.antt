@@ -9,11 +9,9 @@ use Rattle.record_engine.proofs.Codes.{codes}
 use Rattle.record_engine.proofs.record_house_table.Goals as goal
 
 abbrev answer : Bool × List ℕ → Bool
-
 answer filled = filled.0
 
 abbrev output : Bool × List ℕ → List ℕ
-
 output filled = filled.1
 
 pub returns-then-fill_table : goal.returns-then-fill_table
