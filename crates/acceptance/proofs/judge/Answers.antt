@@ -41,8 +41,8 @@ loop-i-preserved c =
     let next = Judging n ws (turn.i + 1) in (
       search rules,
       elim c.if-all.branch [
-        then-all w ↦ subst next (sym w.all-is) (judge-next n ws turn.invariant.1 ordered (search rules) c.requires w.if-all.true (w.are_bounded_within-all.ensures n c.requires))
-      | else-all w ↦ subst next (sym w.all-is) (judge-kept n ws turn.invariant.1 ordered w.if-all.false)
+        | then-all w ↦ subst next (sym w.all-is) (judge-next n ws turn.invariant.1 ordered (search rules) c.requires w.if-all.true (w.are_bounded_within-all.ensures n c.requires))
+        | else-all w ↦ subst next (sym w.all-is) (judge-kept n ws turn.invariant.1 ordered w.if-all.false)
       ],
     )
 

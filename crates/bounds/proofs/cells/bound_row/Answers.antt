@@ -30,12 +30,12 @@ loop-b-preserved c =
       search rules,
       filling-more n ws turn.rows a turn.b _ c.requires.1 turn.invariant.0 (search rules) answer turn.invariant.2,
       elim c.if-c-ge64.branch [
-        then-c-ge64 w ↦
-          w.found-is ∙
-          sym (every-fails _ (turn.b + 1) turn.b (omega arith)
-          (is-tested a turn.b _ false turn.invariant.0 (sym told ∙ le-ltb _ _ w.if-c-ge64.true)))
-      | else-c-ge64 w ↦
-          w.found-is ∙ all-kept _ turn.b _ turn.invariant.3 (is-tested a turn.b _ true turn.invariant.0 (sym told ∙ lt-ltb _ _ w.if-c-ge64.false))
+        | then-c-ge64 w ↦
+            w.found-is ∙
+            sym (every-fails _ (turn.b + 1) turn.b (omega arith)
+            (is-tested a turn.b _ false turn.invariant.0 (sym told ∙ le-ltb _ _ w.if-c-ge64.true)))
+        | else-c-ge64 w ↦
+            w.found-is ∙ all-kept _ turn.b _ turn.invariant.3 (is-tested a turn.b _ true turn.invariant.0 (sym told ∙ lt-ltb _ _ w.if-c-ge64.false))
       ],
     )
 

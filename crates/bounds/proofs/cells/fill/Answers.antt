@@ -19,9 +19,9 @@ loop-a-preserved c =
     let row = c.bound_row in (
       search rules,
       elim c.if-not-bound_row.branch [
-        then-not-bound_row w ↦
-          w.found-is ∙ sym (every-fails _ (turn.a + 1) turn.a (omega arith) (refuted row.ensures.found (ap not w.if-not-bound_row.true)))
-      | else-not-bound_row w ↦ w.found-is ∙ all-kept _ turn.a _ turn.invariant.1 (held row.ensures.found (ap not w.if-not-bound_row.false))
+        | then-not-bound_row w ↦
+            w.found-is ∙ sym (every-fails _ (turn.a + 1) turn.a (omega arith) (refuted row.ensures.found (ap not w.if-not-bound_row.true)))
+        | else-not-bound_row w ↦ w.found-is ∙ all-kept _ turn.a _ turn.invariant.1 (held row.ensures.found (ap not w.if-not-bound_row.false))
       ],
       next_row turn.a _ _ _ _ turn.invariant.2 row.ensures.row,
       row.ensures.columns,

@@ -39,20 +39,20 @@ loop-j-preserved c =
     let ws = c.args.down.now in
     let is = c.is_irreducible-stands.ensures in
     elim c.if-stands.branch [
-      then-stands+else-not-is_prime w ↦
-    let splits = held {p = word_splits n ws _} w.is_prime.ensures (ap not w.if-not-is_prime.false) in (
-      search rules,
-      every_more (word_prime n ws) turn.j turn.invariant.1 (prime-split n ws turn.j _ w.turn_word-up.ensures splits),
-      next_word (word_irreducible n ws) turn.j turn.types _ _ turn.invariant.2 is c.with_bit-types.ensures,
-      subst (λ (l : List ℕ). Kept n ws l (turn.j + 1)) (sym w.above-is) (kept_more turn.invariant.3 _ (search rules) w.turn_word-up.ensures),
-    )
-    | else-stands w ↦
-    let stands = sym is ∙ w.if-stands.false in (
-      search rules,
-      every_more (word_prime n ws) turn.j turn.invariant.1 (prime-past n ws turn.j stands),
-      next_word (word_irreducible n ws) turn.j turn.types _ _ turn.invariant.2 is c.with_bit-types.ensures,
-      subst (λ (l : List ℕ). Kept n ws l (turn.j + 1)) (sym w.above-is) (kept-past turn.invariant.3 stands),
-    )
+      | then-stands+else-not-is_prime w ↦
+          let splits = held {p = word_splits n ws _} w.is_prime.ensures (ap not w.if-not-is_prime.false) in (
+            search rules,
+            every_more (word_prime n ws) turn.j turn.invariant.1 (prime-split n ws turn.j _ w.turn_word-up.ensures splits),
+            next_word (word_irreducible n ws) turn.j turn.types _ _ turn.invariant.2 is c.with_bit-types.ensures,
+            subst (λ (l : List ℕ). Kept n ws l (turn.j + 1)) (sym w.above-is) (kept_more turn.invariant.3 _ (search rules) w.turn_word-up.ensures),
+          )
+      | else-stands w ↦
+          let stands = sym is ∙ w.if-stands.false in (
+            search rules,
+            every_more (word_prime n ws) turn.j turn.invariant.1 (prime-past n ws turn.j stands),
+            next_word (word_irreducible n ws) turn.j turn.types _ _ turn.invariant.2 is c.with_bit-types.ensures,
+            subst (λ (l : List ℕ). Kept n ws l (turn.j + 1)) (sym w.above-is) (kept-past turn.invariant.3 stands),
+          )
     ]
 
 pub returns : goal.returns

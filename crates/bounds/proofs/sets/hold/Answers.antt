@@ -20,7 +20,6 @@ use Rattle.bounds.proofs.sets.hold.Goals as goal
 again : {up : Bool} (n : ℕ) {ws sets new : List ℕ} {k v : ℕ} (w : ℕ) → length sets ≡ 128 → Sets up n ws sets k → k < 64 →
     v ≡ bit_and (get_or ws k 0) (word n (word_irreducible n ws)) → SoughtBy up n ws k w → new ≡ set (set sets k v) (64 + k) w →
     (length new ≡ 128) × Sets up n ws new (k + 1)
-
 again {up} n {ws} {sets} {new} {k} {v} w long s l e f q = (
   ap length q ∙ length-set (set sets k v) (64 + k) w ∙ length-set sets k v ∙ long,
   subst (λ (l : List ℕ). Sets up n ws l (k + 1)) (sym q) (sets_more s long l v w e f),
@@ -47,14 +46,14 @@ loop-a-preserved c =
     let primes = held refl (ap not c.if-not-found.false) in
     let value = ap (bit_and (get_or ws turn.a 0)) (found.ensures.types primes) in
     elim c.if-up.branch [
-      then-up came ↦
-    let w = get_or found.result.above turn.a 0 in
-    let sought = subst (λ (b : Bool). SoughtBy b n ws turn.a w) (sym came.if-up.true) (found.ensures.above primes turn.a (search rules)) in
-    let next = again n w turn.invariant.1 turn.invariant.2 (search rules) value sought came.sets-is in (search rules, next.0, next.1)
-    | else-up came ↦
-    let w = get_or ws turn.a 0 in
-    let sought = subst (λ (b : Bool). SoughtBy b n ws turn.a w) (sym came.if-up.false) refl in
-    let next = again n w turn.invariant.1 turn.invariant.2 (search rules) value sought came.sets-is in (search rules, next.0, next.1)
+      | then-up came ↦
+          let w = get_or found.result.above turn.a 0 in
+          let sought = subst (λ (b : Bool). SoughtBy b n ws turn.a w) (sym came.if-up.true) (found.ensures.above primes turn.a (search rules)) in
+          let next = again n w turn.invariant.1 turn.invariant.2 (search rules) value sought came.sets-is in (search rules, next.0, next.1)
+      | else-up came ↦
+          let w = get_or ws turn.a 0 in
+          let sought = subst (λ (b : Bool). SoughtBy b n ws turn.a w) (sym came.if-up.false) refl in
+          let next = again n w turn.invariant.1 turn.invariant.2 (search rules) value sought came.sets-is in (search rules, next.0, next.1)
     ]
 
 pub returns : goal.returns

@@ -18,8 +18,8 @@ loop-d-preserved c =
     let next = Restoring (turn.d + 1) start.down.now start.lower start.over in (
       search rules,
       elim c.if-down-d.branch [
-        then-down-d w ↦ subst next (sym w.all-is) (restoring-more start.down.now start.lower start.over turn.d turn.all turn.invariant.1 w.if-down-d.true)
-      | else-down-d w ↦ subst next (sym w.all-is) (restoring-kept start.down.now start.lower start.over turn.d turn.all turn.invariant.1 w.if-down-d.false)
+        | then-down-d w ↦ subst next (sym w.all-is) (restoring-more start.down.now start.lower start.over turn.d turn.all turn.invariant.1 w.if-down-d.true)
+        | else-down-d w ↦ subst next (sym w.all-is) (restoring-kept start.down.now start.lower start.over turn.d turn.all turn.invariant.1 w.if-down-d.false)
       ],
     )
 

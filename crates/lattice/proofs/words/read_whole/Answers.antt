@@ -23,8 +23,7 @@ overflow_add-word c =
 
 pub loop-k-preserved : goal.loop-k-preserved
 loop-k-preserved c =
-    let turn = c.loop-k in
-    (
+    let turn = c.loop-k in (
       search rules,
       next-byte c.args.table.now c.args.i turn.k _ _ (search rules) turn.invariant.1 refl
           (omega (arith, c.type_inv.table (8 * c.args.i + turn.k))),
