@@ -1,5 +1,5 @@
 use mathlib.Core.Path.{◌∙◌}
-use Prim.Native.Nat.{◌+◌, ◌-◌}
+use Prim.Native.Nat.{◌+◌}
 use native.Mathlib.Omega.{arith}
 use Rattle.encoder.proofs.WrittenRows.{label-room, map-room, row-start, turn_step, row_done}
 use Rattle.encoder.proofs.encode_row.Goals as goal

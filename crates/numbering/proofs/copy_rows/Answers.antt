@@ -1,4 +1,3 @@
-use Prim.Native.Nat.{◌-◌}
 use native.Mathlib.Omega.{arith}
 use Rattle.encoder.proofs.WrittenRows.{visited-small}
 use Rattle.numbering.proofs.CopiedRows.{copying-start, copying-numbered, copying-short, copying-room, next_low, copying-step, copying-same, copying-done}

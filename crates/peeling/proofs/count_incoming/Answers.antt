@@ -1,9 +1,7 @@
-use mathlib.Core.Bool.{not}
 use mathlib.Core.Path.{sym, ◌∙◌, ap, subst}
-use Prim.Native.Nat.{◌-◌, ◌≤◌}
+use Prim.Native.Nat.{◌≤◌}
 use native.Mathlib.Omega.{arith}
 use borrow.Author.Rules.{rules}
-use borrow.Author.Tests.{not-true, not-false}
 use Rattle.lattice.specs.Label.{Label}
 use Rattle.peeling.specs.Range.{label_in_range}
 use Rattle.peeling.proofs.Counting.{passed_none, passed-more, passed-all, label-out, target-out}
@@ -42,8 +40,7 @@ loop-v-smaller c = omega arith
 
 pub loop-v-preserved : goal.loop-v-preserved
 loop-v-preserved c =
-    let tested = c.is_label_in_range in
-    (
+    let tested = c.is_label_in_range in (
       search rules,
       passed-more c.loop-v.invariant.1
           (sym (ap (label_in_range c.args.n) c.label_at.ensures) ∙ sym tested.ensures

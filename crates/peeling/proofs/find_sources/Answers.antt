@@ -1,4 +1,3 @@
-use Prim.Native.Nat.{◌-◌}
 use native.Mathlib.Omega.{arith}
 use Rattle.visits.proofs.Colouring.{whites-bound}
 use Rattle.peeling.proofs.Counting.{queued-none, queued-source, queued-over, queued-done}
@@ -25,10 +24,10 @@ pub loop-v-preserved : goal.loop-v-preserved
 loop-v-preserved c = (
   omega arith,
   elim c.if-incoming-v-eq0.branch [
-    then-incoming-v-eq0 w ↦
-    rw (w.queue-is, w.count-is) (queued-source c.loop-v.invariant.1 c.requires.incoming_len.0 (omega arith) w.if-incoming-v-eq0.true)
-  | else-incoming-v-eq0 w ↦
-    rw (w.queue-is, w.count-is) (queued-over c.loop-v.invariant.1 c.requires.incoming_len.0 (omega arith) w.if-incoming-v-eq0.false)
+    | then-incoming-v-eq0 w ↦
+        rw (w.queue-is, w.count-is) (queued-source c.loop-v.invariant.1 c.requires.incoming_len.0 (omega arith) w.if-incoming-v-eq0.true)
+    | else-incoming-v-eq0 w ↦
+        rw (w.queue-is, w.count-is) (queued-over c.loop-v.invariant.1 c.requires.incoming_len.0 (omega arith) w.if-incoming-v-eq0.false)
   ],
 )
 

@@ -3,7 +3,7 @@ use mathlib.Core.Path.{ap}
 use mathlib.Core.Bool.{not}
 use mathlib.Core.Path.{sym, ◌∙◌}
 use native.Mathlib.Omega.{arith}
-use borrow.Author.Tests.{le-leb, not-true}
+use borrow.Author.Tests.{le-leb}
 use Rattle.lattice.specs.Label.{Label}
 use Rattle.layout.specs.Builder.{stated}
 use Rattle.peeling.proofs.Range.{zero-out, over-out, levels-decide}

@@ -1,9 +1,7 @@
-use Prim.Native.Nat.{◌-◌}
 use native.Mathlib.Omega.{arith}
 use Rattle.layout.proofs.Places.{sized}
 use Rattle.peeling.proofs.Passes.{peeling-start, peeling-few, next-inside, peeling-row, peeling-next, peels-cyclic, peels-rooted, peels-apart}
 use borrow.Author.Rules.{rules}
-use borrow.Author.Tests.{eqb-true, eqb-false}
 use Rattle.peeling.proofs.sources_first.Goals as goal
 use Rattle.peeling.proofs.sources_first.Goals.{else-sources-eq1-via-then-sources-eq1+else-queue-eq0, else-sources-eq1-via-else-sources-eq1}
 
@@ -46,6 +44,6 @@ returns c =
     peels-apart c.loop-next.invariant c.loop-next-test.false c.if-count-nodes.false
     (λ single root.
     elim c.else-sources-eq1.branch [
-      else-sources-eq1-via-then-sources-eq1+else-queue-eq0 w ↦ w.if-queue-eq0.false root
-    | else-sources-eq1-via-else-sources-eq1 w ↦ w.if-sources-eq1.false single
+      | else-sources-eq1-via-then-sources-eq1+else-queue-eq0 w ↦ w.if-queue-eq0.false root
+      | else-sources-eq1-via-else-sources-eq1 w ↦ w.if-sources-eq1.false single
     ])

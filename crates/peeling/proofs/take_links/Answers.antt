@@ -1,5 +1,5 @@
 use mathlib.Core.Path.{ap}
-use Prim.Native.Nat.{ℕ, ◌+◌, ◌-◌}
+use Prim.Native.Nat.{ℕ, ◌+◌}
 use native.Mathlib.Omega.{arith}
 use lib.ListN.{get_or}
 use Rattle.peeling.proofs.Counting.{due-listed, row-start, row-place, row_inside_lem, still-entered, row_room, row_stays, row-joins, row_done}
@@ -59,10 +59,10 @@ pub loop-k-preserved : goal.loop-k-preserved
 loop-k-preserved c =
     let is = c.target-w.ensures in
     elim c.if-left-eq0.branch [
-      then-left-eq0 w ↦
-      rw (w.queue-is, w.count-is, is) (row-joins c.loop-k.invariant c.loop-k-test.true (rw is at w.if-left-eq0.true))
-    | else-left-eq0 w ↦
-      rw (w.queue-is, w.count-is, is) (row_stays c.loop-k.invariant c.loop-k-test.true (rw is at w.if-left-eq0.false))
+      | then-left-eq0 w ↦
+          rw (w.queue-is, w.count-is, is) (row-joins c.loop-k.invariant c.loop-k-test.true (rw is at w.if-left-eq0.true))
+      | else-left-eq0 w ↦
+          rw (w.queue-is, w.count-is, is) (row_stays c.loop-k.invariant c.loop-k-test.true (rw is at w.if-left-eq0.false))
     ]
 
 pub returns : goal.returns

@@ -1,4 +1,3 @@
-use Prim.Native.Nat.{◌-◌}
 use native.Mathlib.Omega.{arith}
 use Rattle.encoder.proofs.WrittenRows.{visited-small}
 use Rattle.encode.proofs.MarkedRows.{marks-start, marks-room, marks-step, marks-done}

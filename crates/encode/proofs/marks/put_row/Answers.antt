@@ -1,4 +1,4 @@
-use Prim.Native.Nat.{◌+◌, ◌-◌}
+use Prim.Native.Nat.{◌+◌}
 use native.Mathlib.Omega.{arith}
 use Rattle.encode.proofs.MarkedRows.{turn-start, turn_step, turn-done}
 use Rattle.encode.proofs.marks.put_row.Goals as goal

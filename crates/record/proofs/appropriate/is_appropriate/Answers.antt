@@ -1,9 +1,5 @@
-use mathlib.Core.Path.{ap}
-use mathlib.Core.Bool.{not}
 use mathlib.Core.Path.{sym, ◌∙◌}
-use Prim.Native.Nat.{◌-◌}
 use native.Mathlib.Omega.{arith}
-use borrow.Author.Tests.{not-true, not-false}
 use Rattle.record.proofs.Allowed.{rows_none, rows_more, rows_all, rows_out}
 use Rattle.record.proofs.appropriate.is_appropriate.Goals as goal
 

@@ -1,4 +1,3 @@
-use Prim.Native.Nat.{◌-◌}
 use native.Mathlib.Omega.{arith}
 use Rattle.record.proofs.Allowed.{entries_none, entries-more, entries-all, list-short, list_over}
 use Rattle.record.proofs.appropriate.is_list_accepted.Goals as goal

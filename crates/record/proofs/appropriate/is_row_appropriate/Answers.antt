@@ -1,8 +1,6 @@
-use mathlib.Core.Bool.{not}
 use mathlib.Core.Path.{sym, ◌∙◌, ap}
-use Prim.Native.Nat.{◌+◌, ◌-◌}
+use Prim.Native.Nat.{◌+◌}
 use native.Mathlib.Omega.{arith}
-use borrow.Author.Tests.{not-true, not-false}
 use Rattle.record.proofs.Allowed.{row-start, row-kind, row-place, row-feature, row-entry, row_next, row_out, row-all}
 use Rattle.record.proofs.appropriate.is_row_appropriate.Goals as goal
 

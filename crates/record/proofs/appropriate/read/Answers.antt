@@ -1,8 +1,5 @@
 -- `appropriate::read` meets its contract: the record is read, and its graph tested where it is accepted.
-use mathlib.Core.Path.{ap}
-use mathlib.Core.Bool.{not}
 use mathlib.Core.Path.{sym, ◌∙◌}
-use borrow.Author.Tests.{not-true, not-false}
 use Rattle.record.proofs.Allowed.{list-listed, reads-refused, reads-typed, reads-inappropriate, reads-appropriate}
 use Rattle.record.proofs.appropriate.read.Goals as goal
 

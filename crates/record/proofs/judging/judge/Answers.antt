@@ -1,7 +1,4 @@
 -- `judging::judge` meets its contract: for each return a lemma gives the reading from what the two tests find.
-use mathlib.Core.Path.{ap}
-use mathlib.Core.Bool.{not}
-use borrow.Author.Tests.{not-true, not-false}
 use Rattle.peeling.proofs.Counting.{counted_start}
 use Rattle.record.proofs.Judged as judged
 use Rattle.record.proofs.judging.judge.Goals as goal

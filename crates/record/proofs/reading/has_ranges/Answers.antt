@@ -13,7 +13,6 @@ use Rattle.record.proofs.reading.has_ranges.Goals as goal
 
 -- where the last row ends
 ends : {ws : List ℕ} → Shaped ws → rows_end ws ≡ row_from ws 0 + size ws * header + links_in (rows_of ws)
-
 ends {ws} shaped = rows_end_lem ws shaped (size ws) (omega arith)
 
 pub bounds-graph-0 : goal.bounds-graph-0

@@ -1,7 +1,4 @@
 -- `reading::read` meets its contract: the reading follows from what parsing and judging answer.
-use mathlib.Core.Path.{ap}
-use mathlib.Core.Bool.{not}
-use borrow.Author.Tests.{not-true, not-false}
 use Rattle.record.proofs.Parsed as parsed
 use Rattle.record.proofs.reading.read.Goals as goal
 

@@ -1,10 +1,9 @@
 -- `numbering::visit` meets its contract. The measure is the depth left. The loop's invariant: what the visit finds is what following the
 -- rest of the targets finds.
-use Prim.Native.Nat.{ℕ, ◌<◌, ◌+◌, ◌-◌}
+use Prim.Native.Nat.{◌+◌}
 use native.Mathlib.Omega.{arith}
 use borrow.Author.Rules.{rules}
-use Rattle.visits.specs.Visiting.{seen_of, below}
-use Rattle.visits.proofs.Visiting.{Follows, follow, follows-as, follow-met, follow-found, found_all, found-crowded, found-deep, found-full, entered, ready, target-in, place-in, listed}
+use Rattle.visits.proofs.Visiting.{follow, follows-as, follow-met, follow-found, found_all, found-crowded, found-deep, found-full, entered, ready, target-in, place-in, listed}
 use Rattle.visits.proofs.numbering.+visit.Goals as goal
 use Rattle.visits.proofs.numbering.+visit.Goals.{then-numbers-w+else-count-ge255+else-depth-eq0+else-count-gt255, else-numbers-w}
 
@@ -66,13 +65,13 @@ pub loop-k-preserved : goal.loop-k-preserved
 loop-k-preserved t c =
     let is = c.target-w.ensures in
     elim c.if-numbers-w.branch [
-      then-numbers-w+else-count-ge255+else-depth-eq0+else-count-gt255 w ↦
-      follows-as w.numbers-is w.visited-is w.count-is
-      (follow-found c.loop-k.invariant c.loop-k-test.true (rw is at w.if-numbers-w.true)
-      (omega (arith, w.if-count-ge255.false)) w.if-depth-eq0.false (rw is at w.visit-count.ensures) w.if-count-gt255.false)
-    | else-numbers-w w ↦
-      follows-as w.numbers-is w.visited-is w.count-is
-      (follow-met c.loop-k.invariant c.loop-k-test.true (rw is at w.if-numbers-w.false))
+      | then-numbers-w+else-count-ge255+else-depth-eq0+else-count-gt255 w ↦
+          follows-as w.numbers-is w.visited-is w.count-is
+          (follow-found c.loop-k.invariant c.loop-k-test.true (rw is at w.if-numbers-w.true)
+          (omega (arith, w.if-count-ge255.false)) w.if-depth-eq0.false (rw is at w.visit-count.ensures) w.if-count-gt255.false)
+      | else-numbers-w w ↦
+          follows-as w.numbers-is w.visited-is w.count-is
+          (follow-met c.loop-k.invariant c.loop-k-test.true (rw is at w.if-numbers-w.false))
     ]
 
 pub returns : goal.returns

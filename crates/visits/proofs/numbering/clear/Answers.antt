@@ -1,7 +1,6 @@
 use native.Mathlib.Omega.{arith}
 use Rattle.visits.proofs.Visiting.{clear-more}
 use borrow.Author.Rules.{rules}
-use Prim.Native.Nat.{◌-◌}
 use Rattle.visits.proofs.numbering.clear.Goals as goal
 
 pub loop-v-preserved : goal.loop-v-preserved

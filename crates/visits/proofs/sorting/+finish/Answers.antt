@@ -1,11 +1,8 @@
 -- `sorting::finish` meets its contract. Each call turns a white node to the way down, so the number of white nodes is the measure of the
 -- recursion. The loop's invariant: the targets of the links before k are finished. The loop's measure is the number of links left.
-use borrow.Author.Rules.{rules}
-use Prim.Native.Nat.{ℕ, ◌+◌, ◌-◌, ◌<◌}
+use Prim.Native.Nat.{◌+◌}
 use native.Mathlib.Omega.{arith}
-use Rattle.layout.specs.Layout.{size}
-use Rattle.visits.specs.Colouring.{whites}
-use Rattle.visits.proofs.Colouring.{Passing, whites-down, passing-start, listed, place-in, target-in, closes, entered, passing-over, passing-down, finishes, leaves-back}
+use Rattle.visits.proofs.Colouring.{whites-down, passing-start, listed, place-in, target-in, closes, entered, passing-over, passing-down, finishes, leaves-back}
 use Rattle.visits.proofs.sorting.+finish.Goals as goal
 use Rattle.visits.proofs.sorting.+finish.Goals.{then-c-eq0+in-Count, else-c-eq0}
 
@@ -57,13 +54,13 @@ pub loop-k-preserved : goal.loop-k-preserved
 loop-k-preserved t c =
     let is = c.target-w.ensures in
     elim c.if-c-eq0.branch [
-      then-c-eq0+in-Count w ↦
-      rw (w.colour-is, w.order-is, w.count-is)
-      (passing-down c.requires c.loop-k.invariant c.loop-k-test.true ((rw is at w.finish.ensures).counted _ w.in-Count.is)
-      ((rw is at w.finish.ensures).finished _ w.in-Count.is))
-    | else-c-eq0 w ↦
-      rw (w.colour-is, w.order-is, w.count-is)
-      (passing-over c.requires c.loop-k.invariant c.loop-k-test.true (omega (arith, rw is at w.if-c-eq0.false, rw is at c.if-c-eq1.false)))
+      | then-c-eq0+in-Count w ↦
+          rw (w.colour-is, w.order-is, w.count-is)
+          (passing-down c.requires c.loop-k.invariant c.loop-k-test.true ((rw is at w.finish.ensures).counted _ w.in-Count.is)
+          ((rw is at w.finish.ensures).finished _ w.in-Count.is))
+      | else-c-eq0 w ↦
+          rw (w.colour-is, w.order-is, w.count-is)
+          (passing-over c.requires c.loop-k.invariant c.loop-k-test.true (omega (arith, rw is at w.if-c-eq0.false, rw is at c.if-c-eq1.false)))
     ]
 
 pub returns : goal.returns

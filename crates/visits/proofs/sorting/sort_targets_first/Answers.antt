@@ -1,5 +1,4 @@
 use mathlib.Core.Path.{refl}
-use Prim.Native.Nat.{◌-◌}
 use native.Mathlib.Omega.{arith}
 use Rattle.layout.proofs.Places.{sized}
 use Rattle.visits.proofs.Colouring.{sweeping-start, sweeping-entered, sweeping-over, sweeping-down, sweeping-sorts, looped-sorts}
@@ -21,12 +20,12 @@ returns-in-Back c = (record { sorts = looped-sorts (c.finish.ensures.looped c.in
 pub loop-v-preserved : goal.loop-v-preserved
 loop-v-preserved c =
     elim c.if-colour-v-eq0.branch [
-      then-colour-v-eq0+in-Count w ↦
-      rw (w.colour-is, w.order-is, w.count-is)
-      (sweeping-down c.loop-v.invariant (omega arith) (w.finish.ensures.counted _ w.in-Count.is) (w.finish.ensures.finished _ w.in-Count.is))
-    | else-colour-v-eq0 w ↦
-      rw (w.colour-is, w.order-is, w.count-is)
-      (sweeping-over c.loop-v.invariant (omega arith) w.if-colour-v-eq0.false)
+      | then-colour-v-eq0+in-Count w ↦
+          rw (w.colour-is, w.order-is, w.count-is)
+          (sweeping-down c.loop-v.invariant (omega arith) (w.finish.ensures.counted _ w.in-Count.is) (w.finish.ensures.finished _ w.in-Count.is))
+      | else-colour-v-eq0 w ↦
+          rw (w.colour-is, w.order-is, w.count-is)
+          (sweeping-over c.loop-v.invariant (omega arith) w.if-colour-v-eq0.false)
     ]
 
 pub returns : goal.returns
