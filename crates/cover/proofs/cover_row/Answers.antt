@@ -1,10 +1,8 @@
 use mathlib.Core.Path.{sym, ◌∙◌}
-use Prim.Native.Nat.{◌+◌, ◌-◌}
+use Prim.Native.Nat.{◌+◌}
 use native.Mathlib.Omega.{arith}
 use lib.ListN.{get_or}
 use Rattle.cover.proofs.Covering.{rows-known, covering-start, covering-next, covering-done, place-within, target-low, place-owner}
-use Rattle.cover.proofs.own.Reads as own-reads
-use Rattle.subsume.proofs.seek.Reads as seek-reads
 use Rattle.cover.proofs.cover_row.Goals as goal
 
 pub offset_bounds-map-y : goal.offset_bounds-map-y

@@ -1,8 +1,6 @@
 -- `cover_row` meets its contract. The loop's invariant: the links of y before place k are laid over links of s.
 use Prim.Native.Nat.{◌-◌}
 use Rattle.cover.proofs.Covering.{Covering}
-use Rattle.cover.proofs.own.Reads as own-reads
-use Rattle.subsume.proofs.seek.Reads as seek-reads
 use Rattle.cover.proofs.cover_row.Given as goal
 
 abbrev pub invariant-loop-k : goal.invariant-loop-k

@@ -1,7 +1,6 @@
 -- `own` meets its contract: the first node becomes the owner, and the class of each later node becomes one with the owner's.
 use native.Mathlib.Omega.{arith}
 use mathlib.Core.Path.{refl}
-use Rattle.classes.proofs.forest.unite.Reads as unite-reads
 use Rattle.cover.proofs.own.Goals as goal
 
 pub overflow_cast-x : goal.overflow_cast-x

@@ -1,6 +1,5 @@
 -- `difference_in` meets its contract: it goes on only where s is below g, along the order's node map, and where every node of s has a wanted
 -- label.
-use borrow.Author.Tests.{not-true, not-false}
 use Prim.Native.Nat.{ℕ}
 use lib.ListN.{length-replicate}
 use Rattle.difference.proofs.Result.{lying-words, markable-words, made-copied}

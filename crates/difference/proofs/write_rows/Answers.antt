@@ -2,7 +2,6 @@
 use Prim.Native.Nat.{ℕ}
 use native.Mathlib.Omega.{arith}
 use lib.ListN.{length-replicate, replicate}
-use borrow.Author.Tests.{not-true, not-false}
 use Rattle.difference.proofs.Answering.{plain-written, marked-written}
 use Rattle.difference.proofs.write_rows.Goals as goal
 

@@ -1,9 +1,8 @@
 use mathlib.Core.Path.{sym, ◌∙◌}
-use Prim.Native.Nat.{ℕ, ◌+◌, ◌-◌}
+use Prim.Native.Nat.{ℕ, ◌+◌}
 use native.Mathlib.Omega.{arith}
 use lib.ListN.{length-replicate, get_or-replicate}
 use Rattle.groups.proofs.Marking.{marking-start, marking-all, row-start, row-place, row_within, row_next, row_done}
-use Rattle.groups.proofs.mark_place.Reads as mark-place-reads
 use Rattle.groups.proofs.mark.Goals as goal
 
 pub bounds-s-0 : goal.bounds-s-0

@@ -3,7 +3,6 @@ use Prim.Native.Nat.{◌-◌, ◌≤◌}
 use Rattle.layout.specs.Layout.{row_from}
 use Rattle.groups.specs.Marks.{Owned, Marking}
 use Rattle.groups.proofs.Marking.{InRow}
-use Rattle.groups.proofs.mark_place.Reads as mark-place-reads
 use Rattle.groups.proofs.mark.Given as goal
 
 abbrev pub invariant-loop-k : goal.invariant-loop-k

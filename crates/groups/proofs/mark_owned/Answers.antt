@@ -1,16 +1,11 @@
 use mathlib.Core.Path.{sym, ◌∙◌}
-use Prim.Native.Nat.{ℕ, ◌-◌}
+use Prim.Native.Nat.{ℕ}
 use native.Mathlib.Omega.{arith}
 use lib.ListN.{length-replicate}
 use Rattle.classes.proofs.Roots.{flattened}
 use Rattle.cover.proofs.Covering.{grouping-start, grouping-row, grouping-end, grouping-same}
 use Rattle.groups.proofs.Owning.{grouping-owned}
 use Rattle.groups.proofs.Ordering.{marks-by-order}
-use Rattle.classes.proofs.forest.flatten.Reads as flatten-reads
-use Rattle.classes.proofs.forest.separate.Reads as separate-reads
-use Rattle.cover.proofs.cover_row.Reads as cover-row-reads
-use Rattle.groups.proofs.mark.Reads as mark-reads
-use Rattle.link_orders.proofs.ranks.Reads as ranks-reads
 use Rattle.groups.proofs.mark_owned.Goals as goal
 
 pub bounds-g-0 : goal.bounds-g-0

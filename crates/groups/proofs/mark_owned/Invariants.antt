@@ -2,11 +2,6 @@
 use Prim.Native.Nat.{◌-◌, ◌≤◌}
 use Rattle.layout.specs.Layout.{row_from}
 use Rattle.cover.specs.Cover.{Grouping}
-use Rattle.classes.proofs.forest.flatten.Reads as flatten-reads
-use Rattle.classes.proofs.forest.separate.Reads as separate-reads
-use Rattle.cover.proofs.cover_row.Reads as cover-row-reads
-use Rattle.groups.proofs.mark.Reads as mark-reads
-use Rattle.link_orders.proofs.ranks.Reads as ranks-reads
 use Rattle.groups.proofs.mark_owned.Given as goal
 
 abbrev pub invariant-loop-y : goal.invariant-loop-y

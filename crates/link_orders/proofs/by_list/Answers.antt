@@ -1,4 +1,4 @@
-use Prim.Native.Nat.{ℕ, ◌-◌}
+use Prim.Native.Nat.{ℕ}
 use lib.ListN.{length-replicate}
 use Rattle.link_orders.proofs.LinkOrders.{copied-start, copied-inside, copied_next, copied-order}
 use Rattle.link_orders.proofs.by_list.Goals as goal

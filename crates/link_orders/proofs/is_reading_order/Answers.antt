@@ -1,4 +1,4 @@
-use Prim.Native.Nat.{ℕ, ◌-◌}
+use Prim.Native.Nat.{ℕ}
 use native.Mathlib.Omega.{arith}
 use lib.ListN.{length-replicate, get_or-replicate}
 use Rattle.link_orders.proofs.ReadingOrder.{not-long, scanned-start, scanned-high, scanned-twice, scanned-next, scanned-done}

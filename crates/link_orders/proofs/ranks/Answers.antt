@@ -4,7 +4,6 @@ use mathlib.Core.Bool.{Bool, cond}
 use Prim.Native.Nat.{ℕ}
 use lib.ListN.{get_or-replicate}
 use Rattle.graphs.specs.Difference.{place_in}
-use Rattle.link_orders.proofs.places.Reads as places-reads
 use Rattle.link_orders.proofs.ranks.Goals as goal
 
 pub places-requires : goal.places-requires

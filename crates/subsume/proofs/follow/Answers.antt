@@ -1,7 +1,6 @@
-use Prim.Native.Nat.{◌+◌, ◌-◌}
+use Prim.Native.Nat.{◌+◌}
 use native.Mathlib.Omega.{arith}
 use Rattle.subsume.proofs.Following.{spans, nodes, following-start, following-done, following-met, following-new, following-as, fails, lacks-end, lacks-feature, splits-here, target-in, room}
-use Rattle.subsume.proofs.seek.Reads as seek-reads
 use Rattle.subsume.proofs.follow.Goals.{then-image, else-image+else-image-x}
 use Rattle.subsume.proofs.follow.Goals as goal
 
@@ -91,12 +90,12 @@ returns-then-image-x c = fails (splits-here c.loop-k.invariant c.loop-k-test.tru
 
 pub loop-k-preserved : goal.loop-k-preserved
 loop-k-preserved c =
-  let is = c.target-w.ensures in
-  let aim = c.target-x.ensures in
-  elim c.if-image.branch [
-    | then-image w ↦ following-as (rw (is, aim) at w.map-is) (rw is at w.queue-is) w.end-is (following-new c.loop-k.invariant c.loop-k-test.true (rw c.feature-f.ensures at c.seek-j.ensures) (omega (arith, c.if-s_end-j.false)) (omega (arith, c.if-feature-f.false, c.feature.ensures, c.feature-f.ensures)) (rw is at w.if-image.true))
-    | else-image+else-image-x w ↦ following-as w.map-is w.queue-is w.end-is (following-met c.loop-k.invariant c.loop-k-test.true (rw c.feature-f.ensures at c.seek-j.ensures) (omega (arith, c.if-s_end-j.false)) (omega (arith, c.if-feature-f.false, c.feature.ensures, c.feature-f.ensures)) (omega (arith, rw (is, aim) at w.if-image-x.false)))
-  ]
+    let is = c.target-w.ensures in
+    let aim = c.target-x.ensures in
+    elim c.if-image.branch [
+      | then-image w ↦ following-as (rw (is, aim) at w.map-is) (rw is at w.queue-is) w.end-is (following-new c.loop-k.invariant c.loop-k-test.true (rw c.feature-f.ensures at c.seek-j.ensures) (omega (arith, c.if-s_end-j.false)) (omega (arith, c.if-feature-f.false, c.feature.ensures, c.feature-f.ensures)) (rw is at w.if-image.true))
+      | else-image+else-image-x w ↦ following-as w.map-is w.queue-is w.end-is (following-met c.loop-k.invariant c.loop-k-test.true (rw c.feature-f.ensures at c.seek-j.ensures) (omega (arith, c.if-s_end-j.false)) (omega (arith, c.if-feature-f.false, c.feature.ensures, c.feature-f.ensures)) (omega (arith, rw (is, aim) at w.if-image-x.false)))
+    ]
 
 pub returns : goal.returns
 returns c = following-done c.loop-k.invariant c.loop-k-test.false

@@ -1,7 +1,6 @@
 -- `follow` meets its contract. The loop's invariant: the row of g is followed up to the place k.
 use Prim.Native.Nat.{◌-◌}
 use Rattle.subsume.proofs.Following.{Following}
-use Rattle.subsume.proofs.seek.Reads as seek-reads
 use Rattle.subsume.proofs.follow.Given as goal
 
 abbrev pub invariant-loop-k : goal.invariant-loop-k

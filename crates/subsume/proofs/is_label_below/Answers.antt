@@ -10,7 +10,6 @@ use Rattle.lattice.specs.Labels.{table_labels}
 use Rattle.lattice.specs.Table.{below}
 use Rattle.lattice.proofs.Lawful.{Inside, inside, inside-le}
 use Rattle.layout.specs.Builder.{stated}
-use Rattle.lattice.proofs.words.is_below.Reads as is-below-reads
 use Rattle.subsume.proofs.is_label_below.Goals as goal
 
 module _ (n : ℕ) (t : List ℕ) (x y : Label) where

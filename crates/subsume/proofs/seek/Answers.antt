@@ -1,5 +1,4 @@
 use borrow.Author.Rules.{rules}
-use Prim.Native.Nat.{◌-◌}
 use native.Mathlib.Omega.{arith}
 use Rattle.subsume.proofs.Following.{seek-on, feature-over}
 use Rattle.subsume.proofs.seek.Goals as goal

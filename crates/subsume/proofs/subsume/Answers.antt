@@ -1,13 +1,9 @@
 use mathlib.Core.Path.{refl, sym, ap₂, subst, ◌∙◌}
-use Prim.Native.Nat.{◌-◌, ◌<◌}
+use Prim.Native.Nat.{◌<◌}
 use native.Mathlib.Omega.{arith}
-use borrow.Author.Tests.{not-true, not-false}
 use lib.ListN.{replicate}
 use Rattle.lattice.specs.Labels.{table_labels}
 use Rattle.subsume.proofs.Searching.{searched-start, searched-on, next-node, order-yes, order-label, order-clash}
-use Rattle.layout.proofs.label_at.Reads as label-at-reads
-use Rattle.subsume.proofs.is_label_below.Reads as is-label-below-reads
-use Rattle.subsume.proofs.follow.Reads as follow-reads
 use Rattle.subsume.proofs.subsume.Goals as goal
 
 -- src/lib.rt:117:5

@@ -1,9 +1,6 @@
 -- `subsume` meets its contract. The loop's invariant: the nodes in the queue before `head` are passed.
 use Prim.Native.Nat.{◌-◌}
 use Rattle.subsume.proofs.Searching.{Searched}
-use Rattle.layout.proofs.label_at.Reads as label-at-reads
-use Rattle.subsume.proofs.is_label_below.Reads as is-label-below-reads
-use Rattle.subsume.proofs.follow.Reads as follow-reads
 use Rattle.subsume.proofs.subsume.Given as goal
 
 abbrev pub invariant-loop-head : goal.invariant-loop-head

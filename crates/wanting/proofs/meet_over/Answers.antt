@@ -2,8 +2,6 @@ use mathlib.Core.Path.{ap}
 use native.Mathlib.Omega.{arith}
 use Rattle.lattice.specs.Label.{Label}
 use Rattle.wanting.proofs.Wanting.{met_start, met-down-as, met-done, turn-known}
-use Rattle.wanting.proofs.clear.Reads as clear_reads
-use Rattle.layout.proofs.label_at.Reads as label-at-reads
 use Rattle.wanting.proofs.meet_over.Goals as goal
 
 pub overflow_sub-n : goal.overflow_sub-n

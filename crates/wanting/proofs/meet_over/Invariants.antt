@@ -1,7 +1,5 @@
 -- `meet_over` meets its contract. The loop's invariant: the arrays hold the meets of the labels of g's nodes from y on.
 use Rattle.wanting.proofs.Wanting.{Meeting}
-use Rattle.wanting.proofs.clear.Reads as clear_reads
-use Rattle.layout.proofs.label_at.Reads as label-at-reads
 use Rattle.wanting.proofs.meet_over.Given as goal
 
 abbrev pub invariant-loop-y : goal.invariant-loop-y

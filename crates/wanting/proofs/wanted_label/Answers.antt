@@ -3,8 +3,6 @@ use mathlib.Core.Path.{◌∙◌, ap}
 use Rattle.lattice.specs.Labels.{wanted_level}
 use Rattle.layout.specs.Builder.{stated}
 use Rattle.wanting.proofs.Wanting.{wanted-tells}
-use Rattle.wanting.proofs.wanted_level.Reads as wanted-level-reads
-use Rattle.lattice.proofs.wanted.wanted.Reads as wanted-reads
 use Rattle.wanting.proofs.wanted_label.Goals as goal
 
 pub returns : goal.returns

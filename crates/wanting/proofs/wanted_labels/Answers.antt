@@ -1,16 +1,11 @@
 use mathlib.Core.Path.{ap}
-use Prim.Native.Nat.{ℕ, ◌-◌}
+use Prim.Native.Nat.{ℕ}
 use native.Mathlib.Omega.{arith}
 use lib.ListN.{length-replicate, get_or-replicate}
 use Rattle.lattice.specs.Label.{Label}
 use Rattle.lattice.proofs.Laws.{accepted-size}
 use Rattle.wanting.proofs.Wanting.{wants-start, wants-next, wants-none, wants-done}
 use Rattle.wanting.proofs.Asked.{asked-labels}
-use Rattle.wanting.proofs.meet_over.Reads as meet-over-reads
-use Rattle.wanting.proofs.wanted_label.Reads as wanted-label-reads
-use Rattle.lattice.proofs.words.read_words.Reads as read-words-reads
-use Rattle.layout.proofs.label_at.Reads as label-at-reads
-use Rattle.layout.proofs.put_label.Reads as put-label-reads
 use Rattle.wanting.proofs.wanted_labels.Goals as goal
 
 pub bounds-s-0 : goal.bounds-s-0

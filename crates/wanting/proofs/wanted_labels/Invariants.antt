@@ -1,11 +1,6 @@
 -- `wanted_labels` meets its contract. The loop's invariant: the wanted labels of the nodes before v are stored.
 use Prim.Native.Nat.{◌-◌}
 use Rattle.wanting.proofs.Wanting.{Wanting}
-use Rattle.wanting.proofs.meet_over.Reads as meet-over-reads
-use Rattle.wanting.proofs.wanted_label.Reads as wanted-label-reads
-use Rattle.lattice.proofs.words.read_words.Reads as read-words-reads
-use Rattle.layout.proofs.label_at.Reads as label-at-reads
-use Rattle.layout.proofs.put_label.Reads as put-label-reads
 use Rattle.wanting.proofs.wanted_labels.Given as goal
 
 abbrev pub invariant-loop-v : goal.invariant-loop-v

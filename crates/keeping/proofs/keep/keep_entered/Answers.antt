@@ -1,8 +1,7 @@
-use Prim.Native.Nat.{ℕ, ◌+◌, ◌-◌}
+use Prim.Native.Nat.{ℕ, ◌+◌}
 use native.Mathlib.Omega.{arith}
 use lib.ListN.{length-replicate, get_or-replicate}
 use Rattle.keeping.proofs.Keeping.{entering-start, row-start, row-place, row_next, row_done, entering-done}
-use Rattle.keeping.proofs.keep.keep_one.Reads as keep-one-reads
 use Rattle.keeping.proofs.keep.keep_entered.Goals as goal
 
 -- src/keep.rt:45:17

@@ -4,7 +4,6 @@ use Prim.Native.Nat.{◌-◌, ◌≤◌}
 use Rattle.layout.specs.Layout.{row_from}
 use Rattle.keeping.specs.Keeping.{Markable, Entering}
 use Rattle.keeping.proofs.Keeping.{InRow}
-use Rattle.keeping.proofs.keep.keep_one.Reads as keep-one-reads
 use Rattle.keeping.proofs.keep.keep_entered.Given as goal
 
 abbrev pub invariant-loop-k : goal.invariant-loop-k

@@ -7,8 +7,6 @@ use Rattle.lattice.specs.Labels.{table_labels}
 use Rattle.lattice.proofs.Lawful.{known_more}
 use Rattle.keeping.specs.Keeping.{Grown, Untop}
 use Rattle.keeping.proofs.Keeping.{untop-start, untop-yes, untop-no, untop-done}
-use Rattle.layout.proofs.label_from.Reads as label-from-reads
-use Rattle.subsume.proofs.is_label_below.Reads as is-label-below-reads
 use Rattle.keeping.proofs.keep.keep_labelled.Goals.{then-not-is_label_below, else-not-is_label_below}
 use Rattle.keeping.proofs.keep.keep_labelled.Goals as goal
 
@@ -32,16 +30,16 @@ pub loop-v-preserved : goal.loop-v-preserved
 loop-v-preserved c =
     let is = c.is_label_below.ensures c.args.n ∙ ap ((table_labels c.args.n c.args.table.now).le (plain (c.args.n - 1))) c.label_from-label.ensures in
     elim c.if-not-is_label_below.branch [
-    | then-not-is_label_below w ↦ (
-      search rules,
-      subst (Grown (Untop c.args.n c.args.table.now c.args.labels.now (c.loop-v.v + 1)) c.args.keep.now) (sym w.keep-is)
-          (untop-yes c.args.n c.args.table.now c.args.labels.now c.loop-v.v c.loop-v.invariant.1 (search rules) (sym is ∙ w.if-not-is_label_below.true)),
-    )
-    | else-not-is_label_below w ↦ (
-      search rules,
-      subst (Grown (Untop c.args.n c.args.table.now c.args.labels.now (c.loop-v.v + 1)) c.args.keep.now) (sym w.keep-is)
-          (untop-no c.args.n c.args.table.now c.args.labels.now c.loop-v.v c.loop-v.invariant.1 (sym is ∙ w.if-not-is_label_below.false)),
-    )
+      | then-not-is_label_below w ↦ (
+        search rules,
+        subst (Grown (Untop c.args.n c.args.table.now c.args.labels.now (c.loop-v.v + 1)) c.args.keep.now) (sym w.keep-is)
+            (untop-yes c.args.n c.args.table.now c.args.labels.now c.loop-v.v c.loop-v.invariant.1 (search rules) (sym is ∙ w.if-not-is_label_below.true)),
+      )
+      | else-not-is_label_below w ↦ (
+        search rules,
+        subst (Grown (Untop c.args.n c.args.table.now c.args.labels.now (c.loop-v.v + 1)) c.args.keep.now) (sym w.keep-is)
+            (untop-no c.args.n c.args.table.now c.args.labels.now c.loop-v.v c.loop-v.invariant.1 (sym is ∙ w.if-not-is_label_below.false)),
+      )
     ]
 
 pub returns : goal.returns

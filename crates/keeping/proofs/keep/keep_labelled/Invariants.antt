@@ -1,8 +1,6 @@
 -- `keep_labelled` meets its contract. The loop's invariant: the nodes before v whose wanted label is not top are kept.
 use Prim.Native.Nat.{◌-◌, ◌≤◌}
 use Rattle.keeping.specs.Keeping.{Grown, Untop}
-use Rattle.layout.proofs.label_from.Reads as label-from-reads
-use Rattle.subsume.proofs.is_label_below.Reads as is-label-below-reads
 use Rattle.keeping.proofs.keep.keep_labelled.Given as goal
 
 abbrev pub invariant-loop-v : goal.invariant-loop-v

@@ -1,8 +1,7 @@
-use Prim.Native.Nat.{◌+◌, ◌-◌}
+use Prim.Native.Nat.{◌+◌}
 use native.Mathlib.Omega.{arith}
 use lib.ListN.{get_or}
 use Rattle.keeping.proofs.Keeping.{order-inside, node-known, settled-start, settled-yes, settled-no, left, settled-done}
-use Rattle.keeping.proofs.keep.has_kept_link.Reads as has-kept-link-reads
 use Rattle.keeping.proofs.keep.keep_parents.Goals.{then-has_kept_link, else-has_kept_link}
 use Rattle.keeping.proofs.keep.keep_parents.Goals as goal
 
@@ -84,7 +83,7 @@ loop-i-smaller c = omega (arith, c.loop-i-test.true)
 
 -- src/keep.rt:125:5
 pub loop-i-preserved : goal.loop-i-preserved
-loop-i-preserved c = let sorted = c.loop-i.invariant.2.0 in let ready = c.loop-i.invariant.1 in let old = c.loop-i.invariant.2.1 in let inside = c.loop-i-test.true in 
+loop-i-preserved c = let sorted = c.loop-i.invariant.2.0 in let ready = c.loop-i.invariant.1 in let old = c.loop-i.invariant.2.1 in let inside = c.loop-i-test.true in
     elim c.if-has_kept_link.branch [
       | then-has_kept_link w ↦ left c.loop-i.i w.keep-is (omega (arith, inside)) ready sorted (settled-yes sorted inside ready.small old (c.has_kept_link.ensures.yes-stands w.if-has_kept_link.true))
       | else-has_kept_link w ↦ left c.loop-i.i w.keep-is (omega (arith, inside)) ready sorted (settled-no sorted inside ready.small old (c.has_kept_link.ensures.no-stands w.if-has_kept_link.false))

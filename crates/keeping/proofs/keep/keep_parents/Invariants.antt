@@ -1,7 +1,6 @@
 -- `keep_parents` meets its contract. The loop's invariant: the nodes at the places before i are settled.
 use Prim.Native.Nat.{◌-◌, ◌≤◌, ◌<◌}
 use Rattle.keeping.specs.Keeping.{Markable, Settled, Sorted}
-use Rattle.keeping.proofs.keep.has_kept_link.Reads as has-kept-link-reads
 use Rattle.keeping.proofs.keep.keep_parents.Given as goal
 
 abbrev pub invariant-loop-i : goal.invariant-loop-i

@@ -1,10 +1,6 @@
 -- `kept_nodes` meets its contract: exactly the nodes with a reason are kept.
 use native.Mathlib.Omega.{arith}
 use Rattle.keeping.proofs.Keeping.{markable-with, sorted-from, keeps-all}
-use Rattle.keeping.proofs.keep.keep_parents.Reads as keep-parents-reads
-use Rattle.keeping.proofs.keep.keep_entered.Reads as keep-entered-reads
-use Rattle.keeping.proofs.keep.keep_labelled.Reads as keep-labelled-reads
-use Rattle.visits.proofs.sorting.sort_targets_first.Reads as sort-targets-first-reads
 use Rattle.keeping.proofs.keep.kept_nodes.Goals as goal
 
 -- src/keep.rt:152:26

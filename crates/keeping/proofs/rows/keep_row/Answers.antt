@@ -1,9 +1,8 @@
 use mathlib.Core.Path.{sym, ◌∙◌}
-use Prim.Native.Nat.{◌+◌, ◌-◌}
+use Prim.Native.Nat.{◌+◌}
 use native.Mathlib.Omega.{arith}
 use Rattle.keeping.proofs.Keeping.{node-known, place-known}
 use Rattle.keeping.proofs.Thinning.{thin-start, thin-room, thin-inside, thin-more, thin-stay, thin-as, thin-done}
-use Rattle.keeping.proofs.keep.is_kept.Reads as is-kept-reads
 use Rattle.keeping.proofs.rows.keep_row.Goals.{then-is_kept, else-is_kept}
 use Rattle.keeping.proofs.rows.keep_row.Goals as goal
 
@@ -81,7 +80,7 @@ loop-k-smaller c = omega (arith, c.loop-k-test.true)
 
 -- src/rows.rt:26:5
 pub loop-k-preserved : goal.loop-k-preserved
-loop-k-preserved c = 
+loop-k-preserved c =
     elim c.if-is_kept.branch [
       | then-is_kept w ↦ thin-as w.words-is w.next-is (thin-more c.loop-k.invariant c.loop-k-test.true (c.is_kept.ensures.yes-stands w.if-is_kept.true))
       | else-is_kept w ↦ thin-as w.words-is w.next-is (thin-stay c.loop-k.invariant c.loop-k-test.true (c.is_kept.ensures.no-stands w.if-is_kept.false))

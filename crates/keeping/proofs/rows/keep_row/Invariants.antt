@@ -1,7 +1,6 @@
 -- `keep_row` meets its contract. The loop's invariant: the kept links of the row before place k are copied.
 use Prim.Native.Nat.{◌-◌}
 use Rattle.keeping.proofs.Thinning.{Thinning}
-use Rattle.keeping.proofs.keep.is_kept.Reads as is-kept-reads
 use Rattle.keeping.proofs.rows.keep_row.Given as goal
 
 abbrev pub invariant-loop-k : goal.invariant-loop-k

@@ -1,4 +1,3 @@
-use Prim.Native.Nat.{◌-◌}
 use native.Mathlib.Omega.{arith}
 use mathlib.Core.Path.{sym, ◌∙◌, ap}
 use lib.ListN.{length, length-set}
@@ -6,9 +5,6 @@ use Rattle.layout.specs.Builder.{put_label}
 use Rattle.layout.proofs.Builder.{length-put}
 use Rattle.keeping.proofs.Keeping.{node-known}
 use Rattle.keeping.proofs.Thinning.{row-known, rows_start, rows_next, rows-done}
-use Rattle.keeping.proofs.rows.keep_row.Reads as keep-row-reads
-use Rattle.layout.proofs.label_from.Reads as label-from-reads
-use Rattle.layout.proofs.put_label.Reads as put-label-reads
 use Rattle.keeping.proofs.rows.kept_links.Goals as goal
 
 -- src/rows.rt:50:17

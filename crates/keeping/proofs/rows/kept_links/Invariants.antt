@@ -2,9 +2,6 @@
 use Prim.Native.Nat.{◌-◌, ◌≤◌}
 use Rattle.keeping.specs.Keeping.{Markable}
 use Rattle.keeping.specs.Thinning.{Rows}
-use Rattle.keeping.proofs.rows.keep_row.Reads as keep-row-reads
-use Rattle.layout.proofs.label_from.Reads as label-from-reads
-use Rattle.layout.proofs.put_label.Reads as put-label-reads
 use Rattle.keeping.proofs.rows.kept_links.Given as goal
 
 abbrev pub invariant-loop-v : goal.invariant-loop-v
