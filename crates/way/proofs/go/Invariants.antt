@@ -2,11 +2,6 @@
 use Prim.Native.Nat.{◌-◌}
 use lib.ListN.{length}
 use Rattle.way.proofs.Ways.{Going}
-use Rattle.way.proofs.go.Reads as reads
-use Rattle.way.proofs.go.Lts as lts
-use Rattle.gathering.proofs.parts.put_length.Reads as put-length-reads
-use Rattle.way.proofs.step.Reads as step-reads
-use Rattle.versions.proofs.slots.length_in.Reads as length-in-reads
 use Rattle.way.proofs.go.Given as goal
 
 abbrev pub invariant-loop-version : goal.invariant-loop-version

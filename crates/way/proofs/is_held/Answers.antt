@@ -2,7 +2,6 @@
 -- buffer.
 use mathlib.Core.Path.{sym, ◌∙◌}
 use native.Mathlib.Omega.{arith}
-use borrow.Author.Tests.{not-true, not-false}
 use lib.Seq.{length-take-le}
 use Rattle.gathering.proofs.Told.{no_length}
 use Rattle.way.proofs.Holding.{opens-short, opens_not, opens-stops, opens_by}
@@ -22,33 +21,33 @@ returns-then-not-unpack c =
     let a = c.args in
     let told = c.unpack in
     opens_not a.n a.table.now a.buffer.now c.requires.4 a.state.now told.ensures.slotted c.requires.2 c.requires.3
-    told.ensures (not-true told.result c.if-not-unpack.true)
+    told.ensures c.if-not-unpack.true
 
 pub returns-in_default : goal.returns-in_default
 returns-in_default c =
     let a = c.args in
     let went = c.go-reply in
     let told = c.unpack in
-    opens-stops a.n a.table.now a.buffer.now c.requires.4 _ told.ensures.slotted went.ensures.1.1.0
-    (went.ensures.0 ∙ c.requires.3) told.ensures (not-false told.result c.if-not-unpack.false) went.result c.requires.3
-    went.ensures.1.1.1.0 (no_length went.result c.in_default.not-Length)
+    opens-stops a.n a.table.now a.buffer.now c.requires.4 _ told.ensures.slotted went.ensures.parted
+    (went.ensures.long ∙ c.requires.3) told.ensures c.if-not-unpack.false went.result c.requires.3
+    went.ensures.goes (no_length went.result c.in_default.not-Length)
 
 pub slice_bounds-is_start-end : goal.slice_bounds-is_start-end
 slice_bounds-is_start-end c =
     let went = c.go-reply in
-    omega (arith, went.ensures.0, went.ensures.1.0 _ c.in-Length.is)
+    omega (arith, went.ensures.long, went.ensures.inside _ c.in-Length.is)
 
 pub slice_bounds-is_start-end-2 : goal.slice_bounds-is_start-end-2
 slice_bounds-is_start-end-2 c =
     let went = c.go-reply in
-    sym (length-take-le _ _ (omega (arith, went.ensures.0, went.ensures.1.0 _ c.in-Length.is)))
+    sym (length-take-le _ _ (omega (arith, went.ensures.long, went.ensures.inside _ c.in-Length.is)))
 
 pub returns : goal.returns
 returns c =
     let a = c.args in
     let went = c.go-reply in
     let told = c.unpack in
-    opens_by a.n a.table.now a.buffer.now c.requires.4 _ told.ensures.slotted went.ensures.1.1.0
-    (went.ensures.0 ∙ c.requires.3) told.ensures (not-false told.result c.if-not-unpack.false) went.result c.requires.3
-    went.ensures.1.1.1.0 _ c.in-Length.is (went.ensures.1.1.1.1 _ c.in-Length.is) c.is_start.result
+    opens_by a.n a.table.now a.buffer.now c.requires.4 _ told.ensures.slotted went.ensures.parted
+    (went.ensures.long ∙ c.requires.3) told.ensures c.if-not-unpack.false went.result c.requires.3
+    went.ensures.goes _ c.in-Length.is (went.ensures.led _ c.in-Length.is) c.is_start.result
     c.is_start.ensures
