@@ -3,7 +3,6 @@ use mathlib.Core.Path.{sym, ◌∙◌}
 use Prim.Native.Nat.{ℕ, ◌<◌}
 use native.Mathlib.Omega.{arith}
 use lib.ListN.{length-replicate}
-use borrow.Author.Tests.{not-true, not-false}
 use Rattle.versions.proofs.SlotLaws.{absent-replicate, part-blank, clear-slot}
 use Rattle.contents.proofs.Among.{wide, not-held, drop-above, drop-absent, drop-goes}
 use Rattle.contents.proofs.drop_among.Goals as goal
@@ -70,7 +69,7 @@ go-requires c =
     (c.requires.0, (clear-slot opens.slotted low c.put_length.ensures).0, opens.parted, wide opens c.if-not-is_held.false c.args.state.now c.requires.1, omega (arith, opens.long, c.requires.2))
 
 pub shape_of-state : goal.shape_of-state
-shape_of-state c = c.go.ensures.0 ∙ c.is_held.ensures.long ∙ sym c.requires.1
+shape_of-state c = c.go.ensures.long ∙ c.is_held.ensures.long ∙ sym c.requires.1
 
 pub returns : goal.returns
 returns c =
@@ -78,4 +77,4 @@ returns c =
     let low : c.args.version < 16 = omega (arith, c.if-version-ge-VERSIONS.false) in
     let went = c.go.ensures in
     drop-goes opens c.if-not-is_held.false c.args.state.now c.requires.1 c.args.version low
-    (λ e. c.if-length_in-eq0.false (c.length_in.ensures.0 ∙ e)) _ c.go.result (clear-slot opens.slotted low c.put_length.ensures).1 went.0 went.1.0 went.1.1.1.0
+    (λ e. c.if-length_in-eq0.false (c.length_in.ensures.0 ∙ e)) _ c.go.result (clear-slot opens.slotted low c.put_length.ensures).1 went.long went.inside went.goes

@@ -3,7 +3,6 @@ use mathlib.Core.Path.{sym, ◌∙◌}
 use Prim.Native.Nat.{ℕ, ◌<◌}
 use native.Mathlib.Omega.{arith}
 use lib.ListN.{length-replicate}
-use borrow.Author.Tests.{not-true, not-false}
 use Rattle.lattice.proofs.Laws.{accepted-size}
 use Rattle.gathering.proofs.Told.{no_length}
 use Rattle.versions.proofs.SlotLaws.{absent-replicate, part-blank, put-slot}
@@ -34,9 +33,6 @@ slice_bounds-write_program-end c = sym (length-replicate {A = ℕ} 4854 0)
 pub write_program-reply-requires : goal.write_program-reply-requires
 write_program-reply-requires c =
     ((accepted-size c.args.n c.args.table.now c.requires.0.ok).1, length-replicate {A = ℕ} 4854 0)
-
-pub enum_known-reply : goal.enum_known-reply
-enum_known-reply c = c.in-Length.keys1
 
 pub shape_of-state-in_default : goal.shape_of-state-in_default
 shape_of-state-in_default c = c.is_held.ensures.long ∙ sym c.requires.1
@@ -139,7 +135,7 @@ go-requires c =
     (c.requires.0, slotted, opens.parted, wide opens is_held a.state.now c.requires.1, omega (arith, opens.long, c.requires.2))
 
 pub shape_of-state : goal.shape_of-state
-shape_of-state c = c.go.ensures.0 ∙ c.is_held.ensures.long ∙ sym c.requires.1
+shape_of-state c = c.go.ensures.long ∙ c.is_held.ensures.long ∙ sym c.requires.1
 
 pub returns : goal.returns
 returns c =
@@ -152,4 +148,4 @@ returns c =
     let (slotted, is) = put-slot opens.slotted low (told-short wrote _ told) c.put_measured.ensures (told-some wrote _ told) in
     let went = c.go.ensures in
     put-goes opens is_held a.state.now c.requires.1 a.version a.bytes.now wrote _ told low (sym c.length_in.ensures.0 ∙ c.if-length_in-ne0.false) _ is
-    c.go.result went.0 went.1.0 went.1.1.1.0
+    c.go.result went.long went.inside went.goes

@@ -3,7 +3,6 @@ use mathlib.Core.Path.{refl, sym, ◌∙◌}
 use Prim.Native.Nat.{ℕ}
 use native.Mathlib.Omega.{arith}
 use lib.ListN.{length-replicate}
-use borrow.Author.Tests.{not-true, not-false}
 use Rattle.versions.proofs.SlotLaws.{absent-replicate, part-blank}
 use Rattle.contents.proofs.Room.{blank-room}
 use Rattle.contents.proofs.Among.{read-not-held, read_above, read-absent, read_short, read-copied}
@@ -63,9 +62,6 @@ slice_bounds-copy-start c = omega arith
 
 pub slice_bounds-copy-end : goal.slice_bounds-copy-end
 slice_bounds-copy-end c = omega (arith, c.if-version-ge-VERSIONS.false, c.length_in-length.ensures.1, c.is_held.ensures.slotted.long)
-
-pub shape_of-out : goal.shape_of-out
-shape_of-out c = c.copy.auto.1.1.0
 
 pub returns : goal.returns
 returns c =

@@ -2,10 +2,6 @@
 use Rattle.pairs.proofs.Readings.{told-accepted}
 use Rattle.gathering.proofs.Answers.{reads-loaded}
 use Rattle.contents.proofs.Programs.{program-refused, program-written}
-use Rattle.contents.proofs.write_program.Reads as reads
-use Rattle.contents.proofs.write_program.Lts as lts
-use Rattle.engine.proofs.rewriting.of_graph.Reads as of-graph-reads
-use Rattle.record.proofs.reading.read.Reads as read-reads
 use Rattle.contents.proofs.write_program.Goals as goal
 
 pub of_graph-requires : goal.of_graph-requires
