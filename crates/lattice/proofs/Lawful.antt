@@ -14,7 +14,7 @@ use borrow.Author.Tests.{eq-eqb, eqb-true, le-leb, leb-true}
 use Rattle.graphs.specs.Label.{Labels, Lattice}
 use Rattle.graphs.proofs.Search.{true-both}
 use Rattle.lattice.specs.Label.{Label, plain}
-use Rattle.lattice.specs.Table.{below, accepted, meet, join, cell}
+use Rattle.lattice.specs.Table.{below, accepted, cell}
 use Rattle.lattice.specs.Labels.{table_labels, Known}
 use Rattle.lattice.proofs.Every.{below_or_not, and_left, and_right}
 use Rattle.lattice.proofs.Laws.{

@@ -1,4 +1,3 @@
-use Prim.Native.Nat.{◌-◌}
 use mathlib.Core.Path.{refl, sym, ap₂, ◌∙◌}
 use lib.ListN.{length-set}
 use borrow.Author.Rules.{rules}

@@ -1,4 +1,3 @@
-use Prim.Native.Nat.{◌-◌}
 use native.Mathlib.Omega.{arith}
 use Rattle.house_types.proofs.Printing.{print-start, print-room, print-place, print-step, print-end}
 use Rattle.house_types.proofs.put_meets.Goals as goal

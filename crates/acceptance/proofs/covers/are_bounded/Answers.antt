@@ -1,7 +1,5 @@
-use Prim.Native.Nat.{◌-◌}
 use mathlib.Core.Path.{sym, subst}
 use native.Mathlib.Nat.{not-suc-le-zero}
-use borrow.Author.Tests.{not-true, not-false}
 use Rattle.lattice.specs.Words.{BoundsWithin}
 use borrow.Author.Rules.{rules}
 use Rattle.acceptance.proofs.Covering.{covered-inside, covers_more, covers-bounded}

@@ -2,7 +2,6 @@ use Prim.Native.Nat.{ℕ, ◌^◌}
 use mathlib.Core.Path.{refl, sym, ap, subst, ◌∙◌}
 use native.Mathlib.Omega.{arith}
 use mathlib.Core.Bool.{true}
-use borrow.Author.Tests.{not-true, not-false}
 use Rattle.lattice.specs.Words.{without, Inside, BoundsWith}
 use Rattle.lattice.proofs.Seeking.{without-inside}
 use Rattle.lattice.proofs.Bits.{cleared-less}

@@ -1,8 +1,7 @@
-use Prim.Native.Nat.{◌+◌, ◌-◌}
+use Prim.Native.Nat.{◌+◌}
 use mathlib.Core.Bool.{not}
 use mathlib.Core.Path.{sym, ap, ◌∙◌}
 use native.Mathlib.Omega.{arith}
-use Rattle.lattice.specs.Table.{bound_row}
 use Rattle.lattice.proofs.Every.{every-none, every-fails, all-kept, refuted, held}
 use Rattle.lattice.proofs.Rows.{overwrite-none, next_row}
 use Rattle.bounds.proofs.Columns.{columns-begin, fill_done}

@@ -1,5 +1,5 @@
 -- `join` meets its contract: the answer is the cell, or the type whose set is the union.
-use Rattle.bounds.proofs.Held.{row_inside_lem, union-member, join-in-cells, join-left, join-right, join-sought}
+use Rattle.bounds.proofs.Held.{union-member, join-in-cells, join-left, join-right, join-sought}
 use Rattle.bounds.proofs.sets.join.Goals as goal
 
 -- LEFT bounds-1-result

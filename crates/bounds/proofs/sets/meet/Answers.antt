@@ -1,5 +1,5 @@
 -- `meet` meets its contract: the answer is the cell, or the type whose set is the overlap.
-use Rattle.bounds.proofs.Held.{row_inside_lem, meet-in-cells, meet_left, meet_right, meet-sought}
+use Rattle.bounds.proofs.Held.{meet-in-cells, meet_left, meet_right, meet-sought}
 use Rattle.bounds.proofs.sets.meet.Goals as goal
 
 -- LEFT bounds-1-result

@@ -1,4 +1,4 @@
-use Prim.Native.Nat.{◌+◌, ◌-◌}
+use Prim.Native.Nat.{◌+◌}
 use mathlib.Core.Path.{sym, subst}
 use Rattle.lattice.specs.Words.{Restoring}
 use Rattle.lattice.proofs.Restoring.{restoring_none, restoring-more, restoring-kept, restoring-done}
