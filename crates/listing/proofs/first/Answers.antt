@@ -22,5 +22,5 @@ returns c =
     (ap not c.if-not-is_count.false) c.args.out.now
     (c.write.ensures ∙ first-continued n c.args.features c.args.out.now low small
     (counts c.args.features c.is_count.ensures
-    c.if-not-is_count.false) c.from_links0-d.result
+    (ap not c.if-not-is_count.false)) c.from_links0-d.result
     c.from_links0-d.ensures)

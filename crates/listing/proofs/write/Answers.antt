@@ -23,18 +23,17 @@ pub overflow_cast-out : goal.overflow_cast-out
 overflow_cast-out c = omega (arith, c.record_byte.ensures, c.requires.1 c.loop-i.i)
 
 pub loop-i-preserved : goal.loop-i-preserved
-loop-i-preserved c =
-    (
-      stored_more (record_of (number_list c.args.d)) c.args.out.now c.loop-i.out c.loop-i.i _
-          c.loop-i.invariant.0 (omega (arith, c.loop-i-test.true, c.loop-i.invariant.1))
-          (omega (arith, c.loop-i.invariant.1, c.loop-i.invariant.2))
-          c.record_byte.ensures,
-      c.loop-i.invariant.1,
-      c.loop-i.invariant.2,
-      omega
-          (arith, c.loop-i-test.true),
-      length-set c.loop-i.out c.loop-i.i _ ∙ c.loop-i.invariant.4,
-    )
+loop-i-preserved c = (
+  stored_more (record_of (number_list c.args.d)) c.args.out.now c.loop-i.out c.loop-i.i _
+      c.loop-i.invariant.0 (omega (arith, c.loop-i-test.true, c.loop-i.invariant.1))
+      (omega (arith, c.loop-i.invariant.1, c.loop-i.invariant.2))
+      c.record_byte.ensures,
+  c.loop-i.invariant.1,
+  c.loop-i.invariant.2,
+  omega
+      (arith, c.loop-i-test.true),
+  length-set c.loop-i.out c.loop-i.i _ ∙ c.loop-i.invariant.4,
+)
 
 pub returns : goal.returns
 returns c =

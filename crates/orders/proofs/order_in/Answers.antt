@@ -5,7 +5,7 @@ use Rattle.orders.specs.Ordering.{ordered}
 use Rattle.orders.proofs.order_in.Goals as goal
 
 pub read_both-verdict-requires : goal.read_both-verdict-requires
-read_both-verdict-requires c = (record { n_bound = (c.requires.recorded, optional-none c.args.n _ refl); roomy = (c.requires.at_bound, c.requires.2) })
+read_both-verdict-requires c = (record { n_bound = (c.requires.0, optional-none c.args.n _ refl); roomy = (c.requires.1, c.requires.2) })
 
 pub of_graphs-requires : goal.of_graphs-requires
 of_graphs-requires c = (c.args.n, (c.requires.0, both-loaded c.args.n c.args.table.now _ c.args.first.now c.args.second.now c.read_both-verdict.ensures c.in-Both.is))

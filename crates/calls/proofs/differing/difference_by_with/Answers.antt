@@ -1,6 +1,5 @@
 -- `difference_by_with` meets its contract: the table is tested, then the list; then the difference is written.
 use mathlib.Core.Path.{sym, ◌∙◌}
-use borrow.Author.Tests.{not-true, not-false}
 use Rattle.acceptance.proofs.Acceptance.{opened-accepted}
 use Rattle.calls.proofs.Differences.{differing-by-refused, differing-by-list, differing-by-accepted}
 use Rattle.calls.proofs.differing.difference_by_with.Goals as goal
@@ -9,10 +8,10 @@ pub returns-then-not-is_reading_order : goal.returns-then-not-is_reading_order
 returns-then-not-is_reading_order c =
     let a = c.args in
     differing-by-list a.explained a.n a.table.now a.first.now a.second.now a.out.now a.reasons.now a.list.now (sym c.accept-opened.ensures ∙ c.in-Accepted.is)
-    (sym c.is_reading_order.ensures ∙ not-true c.is_reading_order.result c.if-not-is_reading_order.true)
+    (sym c.is_reading_order.ensures ∙ c.if-not-is_reading_order.true)
 
 pub by_list-order-requires : goal.by_list-order-requires
-by_list-order-requires c = sym c.is_reading_order.ensures ∙ not-false c.is_reading_order.result c.if-not-is_reading_order.false
+by_list-order-requires c = sym c.is_reading_order.ensures ∙ c.if-not-is_reading_order.false
 
 pub of_records-requires : goal.of_records-requires
 of_records-requires c =
@@ -28,4 +27,4 @@ pub returns-else-not-is_reading_order : goal.returns-else-not-is_reading_order
 returns-else-not-is_reading_order c =
     let a = c.args in
     differing-by-accepted a.explained a.n a.table.now a.first.now a.second.now a.out.now a.reasons.now a.list.now (sym c.accept-opened.ensures ∙ c.in-Accepted.is)
-    (sym c.is_reading_order.ensures ∙ not-false c.is_reading_order.result c.if-not-is_reading_order.false) c.by_list-order.ensures.1 c.of_records.ensures
+    (sym c.is_reading_order.ensures ∙ c.if-not-is_reading_order.false) c.by_list-order.ensures.1 c.of_records.ensures

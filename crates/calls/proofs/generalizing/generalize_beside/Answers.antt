@@ -2,15 +2,15 @@
 use Prim.Native.Nat.{ℕ}
 use mathlib.Core.Path.{sym, ◌∙◌}
 use mathlib.Core.Bool.{true}
-use mathlib.Core.Logic.{⊎_elim, inl, inr}
+use mathlib.Core.Logic.{inl, inr}
 use lib.ListN.{length-replicate}
-use borrow.Author.Tests.{not-true, not-false}
 use Rattle.acceptance.proofs.Acceptance.{accepted-opened}
 use Rattle.bounds.proofs.Opening.{opened-sets}
 use Rattle.record.specs.Appropriate.{list_accepted}
 use Rattle.engine.specs.Generalizing.{generalized_beside}
 use Rattle.calls.proofs.Listed.{table-before-list, list-refused, list-passed}
 use Rattle.calls.proofs.Beside.{beside-checked, optional-passed, test-passed, test-failed}
+use Rattle.calls.proofs.generalizing.generalize_beside.Goals.{else-listed-via-then-listed+else-not-is_list_accepted, else-listed-via-else-listed}
 use Rattle.calls.proofs.generalizing.generalize_beside.Goals as goal
 
 pub choose-form-requires : goal.choose-form-requires
@@ -24,13 +24,16 @@ returns-then-not-is_list_accepted c =
     let a = c.args in
     list-refused (beside-checked a.n a.table.now a.listed a.list.now a.out.now (generalized_beside a.n a.table.now a.list.now a.first.now a.second.now a.out.now))
     (accepted-opened a.n a.table.now (c.choose-form.ensures.as-sets c.in-AsSets.is).ok)
-    (test-failed a.listed (list_accepted a.n a.list.now) c.if-listed.true (sym c.is_list_accepted.ensures ∙ not-true c.is_list_accepted.result c.if-not-is_list_accepted.true))
+    (test-failed a.listed (list_accepted a.n a.list.now) c.if-listed.true (sym c.is_list_accepted.ensures ∙ c.if-not-is_list_accepted.true))
 
 pub of_records-requires : goal.of_records-requires
 of_records-requires c =
     let a = c.args in (
       opened-sets true a.n a.table.now _ (c.choose-form.ensures.as-sets c.in-AsSets.is),
-      optional-passed a.n a.listed a.list.now c.requires (test-passed a.listed (list_accepted a.n a.list.now) (⊎_elim (λ x. inl (x.0.taken, sym x.1.ensures ∙ not-false x.1.result x.2.left)) (λ x. inr x.left) c.else-listed.branch)),
+      optional-passed a.n a.listed a.list.now c.requires (test-passed a.listed (list_accepted a.n a.list.now) (elim c.else-listed.branch [
+        | else-listed-via-then-listed+else-not-is_list_accepted w ↦ inl (w.if-listed.true, sym w.is_list_accepted.ensures ∙ w.if-not-is_list_accepted.false)
+        | else-listed-via-else-listed w ↦ inr w.if-listed.false
+      ])),
     )
 
 pub returns-in-Refused : goal.returns-in-Refused
@@ -48,4 +51,7 @@ returns-else-listed c =
     c.of_records.ensures ∙
     list-passed (beside-checked a.n a.table.now a.listed a.list.now a.out.now (generalized_beside a.n a.table.now a.list.now a.first.now a.second.now a.out.now))
     (accepted-opened a.n a.table.now (c.choose-form.ensures.as-sets c.in-AsSets.is).ok)
-    (test-passed a.listed (list_accepted a.n a.list.now) (⊎_elim (λ x. inl (x.0.taken, sym x.1.ensures ∙ not-false x.1.result x.2.left)) (λ x. inr x.left) c.else-listed.branch))
+    (test-passed a.listed (list_accepted a.n a.list.now) (elim c.else-listed.branch [
+      | else-listed-via-then-listed+else-not-is_list_accepted w ↦ inl (w.if-listed.true, sym w.is_list_accepted.ensures ∙ w.if-not-is_list_accepted.false)
+      | else-listed-via-else-listed w ↦ inr w.if-listed.false
+    ]))

@@ -1,9 +1,6 @@
 -- `rewrite_beside` meets its contract: the table is tested, then the list; then the record is rewritten.
-use mathlib.Core.Path.{ap}
-use mathlib.Core.Bool.{not}
 use mathlib.Core.Path.{sym, ◌∙◌}
-use mathlib.Core.Logic.{⊎_elim, inl, inr}
-use borrow.Author.Tests.{not-true, not-false}
+use mathlib.Core.Logic.{inl, inr}
 use Rattle.acceptance.proofs.Acceptance.{opened-accepted}
 use Rattle.record.specs.Appropriate.{list_accepted}
 use Rattle.calls.proofs.Listed.{table-before-list, list-refused, list-passed}
@@ -11,6 +8,7 @@ use Rattle.calls.proofs.Beside.{beside-checked, optional-passed, test-passed, te
 use Rattle.lattice.proofs.Laws.{accepted-size}
 use Rattle.pairs.specs.Pair.{reading_beside}
 use Rattle.engine.specs.Rewriting.{rewritten}
+use Rattle.calls.proofs.rewriting.rewrite_beside.Goals.{else-listed-via-then-listed+else-not-is_list_accepted, else-listed-via-else-listed}
 use Rattle.calls.proofs.rewriting.rewrite_beside.Goals as goal
 
 pub returns-then-not-is_list_accepted : goal.returns-then-not-is_list_accepted
@@ -18,13 +16,16 @@ returns-then-not-is_list_accepted c =
     let a = c.args in
     list-refused (beside-checked a.n a.table.now a.listed a.list.now a.out.now (rewritten (reading_beside a.n a.table.now a.list.now a.bytes.now) a.out.now))
     (sym c.accept-opened.ensures ∙ c.in-Accepted.is)
-    (test-failed a.listed (list_accepted a.n a.list.now) c.if-listed.true (sym c.is_list_accepted.ensures ∙ not-true c.is_list_accepted.result (ap not c.if-not-is_list_accepted.true)))
+    (test-failed a.listed (list_accepted a.n a.list.now) c.if-listed.true (sym c.is_list_accepted.ensures ∙ c.if-not-is_list_accepted.true))
 
 pub of_record-requires : goal.of_record-requires
 of_record-requires c =
     let a = c.args in (
       (accepted-size a.n a.table.now (opened-accepted a.n a.table.now _ c.accept-opened.ensures c.in-Accepted.is)).1,
-      optional-passed a.n a.listed a.list.now c.requires (test-passed a.listed (list_accepted a.n a.list.now) (⊎_elim (λ x. inl (x.0.taken, sym x.1.ensures ∙ not-false x.1.result x.2.left)) (λ x. inr x.left) c.else-listed.branch)),
+      optional-passed a.n a.listed a.list.now c.requires (test-passed a.listed (list_accepted a.n a.list.now) (elim c.else-listed.branch [
+        | else-listed-via-then-listed+else-not-is_list_accepted w ↦ inl (w.if-listed.true, sym w.is_list_accepted.ensures ∙ w.if-not-is_list_accepted.false)
+        | else-listed-via-else-listed w ↦ inr w.if-listed.false
+      ])),
     )
 
 pub returns-in-Refused : goal.returns-in-Refused
@@ -38,4 +39,7 @@ returns-else-listed c =
     c.of_record.ensures ∙
     list-passed (beside-checked a.n a.table.now a.listed a.list.now a.out.now (rewritten (reading_beside a.n a.table.now a.list.now a.bytes.now) a.out.now))
     (sym c.accept-opened.ensures ∙ c.in-Accepted.is)
-    (test-passed a.listed (list_accepted a.n a.list.now) (⊎_elim (λ x. inl (x.0.taken, sym x.1.ensures ∙ not-false x.1.result x.2.left)) (λ x. inr x.left) c.else-listed.branch))
+    (test-passed a.listed (list_accepted a.n a.list.now) (elim c.else-listed.branch [
+      | else-listed-via-then-listed+else-not-is_list_accepted w ↦ inl (w.if-listed.true, sym w.is_list_accepted.ensures ∙ w.if-not-is_list_accepted.false)
+      | else-listed-via-else-listed w ↦ inr w.if-listed.false
+    ]))

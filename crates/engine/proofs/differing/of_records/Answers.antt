@@ -13,7 +13,7 @@ read_numbered-verdict-requires c =
 
 pub of_read-requires : goal.of_read-requires
 of_read-requires c =
-    (record { table_value = (c.requires.0, c.requires.1, omega (arith, c.s-then-are_short-1.given, length-replicate {A = ℕ} 768 0), omega (arith, c.g-then-are_short-1.given, c.s-then-are_short-1.given)); loaded = c.read_numbered-verdict.ensures.loaded })
+    (record { table_value = (c.requires.0, c.requires.1, omega (arith, c.read_numbered-verdict.auto.s, length-replicate {A = ℕ} 768 0), omega (arith, c.read_numbered-verdict.auto.g, c.read_numbered-verdict.auto.s)); loaded = c.read_numbered-verdict.ensures.loaded })
 
 pub returns-then-are_short : goal.returns-then-are_short
 returns-then-are_short c =
@@ -26,7 +26,7 @@ read_numbered-verdict-requires-2 c =
 
 pub of_read-requires-2 : goal.of_read-requires-2
 of_read-requires-2 c =
-    (record { table_value = (c.requires.recorded, c.requires.at_bound, omega (arith, c.s-3-1.given, length-replicate {A = ℕ} 2815 0), omega (arith, c.g-3-1.given, c.s-3-1.given)); loaded = c.read_numbered-verdict-2.ensures.loaded })
+    (record { table_value = (c.requires.0, c.requires.1, omega (arith, c.read_numbered-verdict-2.auto.s, length-replicate {A = ℕ} 2815 0), omega (arith, c.read_numbered-verdict-2.auto.g, c.read_numbered-verdict-2.auto.s)); loaded = c.read_numbered-verdict-2.ensures.loaded })
 
 pub returns : goal.returns
 returns c =

@@ -5,7 +5,8 @@ use Rattle.engine.proofs.generalizing.of_graphs.Goals as goal
 pub generalize-requires : goal.generalize-requires
 generalize-requires c =
     let ((t, held), (one, other)) = c.requires in
-    ready-to-join held one other
+    let all = ready-to-join held one other in
+    record { recorded = all.0; recorded_2 = all.1.0; joinable = all.1.1.0; seekable = all.1.1.1 }
 
 pub returns : goal.returns
 returns c = λ t held.

@@ -9,7 +9,7 @@ use Rattle.engine.proofs.generalizing.of_records.Goals as goal
 pub read_both-verdict-requires : goal.read_both-verdict-requires
 read_both-verdict-requires c =
     let short = c.are_short.ensures c.if-are_short.true in
-    (((accepted-size c.args.n c.args.table.now c.requires.0.ok).1, c.requires.1), (omega (arith, short.0, length-replicate {A = ℕ} 768 0), omega (arith, short.1, length-replicate {A = ℕ} 768 0)))
+    record { n_bound = ((accepted-size c.args.n c.args.table.now c.requires.0.ok).1, c.requires.1); roomy = (omega (arith, short.0, length-replicate {A = ℕ} 768 0), omega (arith, short.1, length-replicate {A = ℕ} 768 0)) }
 
 pub of_read-requires : goal.of_read-requires
 of_read-requires c =
@@ -23,7 +23,7 @@ returns-then-are_short c =
 
 pub read_both-verdict-requires-2 : goal.read_both-verdict-requires-2
 read_both-verdict-requires-2 c =
-    (((accepted-size c.args.n c.args.table.now c.requires.0.ok).1, c.requires.1), (omega (arith, length-replicate {A = ℕ} 2815 0), omega (arith, length-replicate {A = ℕ} 2815 0)))
+    record { n_bound = ((accepted-size c.args.n c.args.table.now c.requires.0.ok).1, c.requires.1); roomy = (omega (arith, length-replicate {A = ℕ} 2815 0), omega (arith, length-replicate {A = ℕ} 2815 0)) }
 
 pub of_read-requires-2 : goal.of_read-requires-2
 of_read-requires-2 c =

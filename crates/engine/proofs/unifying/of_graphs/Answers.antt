@@ -5,7 +5,8 @@ use Rattle.engine.proofs.unifying.of_graphs.Goals as goal
 pub unify-requires : goal.unify-requires
 unify-requires c =
     let ((t, held), (one, other)) = c.requires in
-    (let all = ready-to-combine held one other in (all.0, all.1))
+    let all = ready-to-combine held one other in
+    record { n_nonzero = all.0; meeting = all.1.0; operand = all.1.1.0; operand_2 = all.1.1.1 }
 
 pub returns : goal.returns
 returns c = λ t held.

@@ -23,7 +23,7 @@ returns-then-are_short c =
 
 pub read_both-verdict-requires-2 : goal.read_both-verdict-requires-2
 read_both-verdict-requires-2 c =
-    (record { n_bound = ((accepted-size c.args.n c.args.table.now c.requires.slotted.ok).1, c.requires.differences_value); roomy = (omega (arith, length-replicate {A = ℕ} 2815 0), omega (arith, length-replicate {A = ℕ} 2815 0)) })
+    (record { n_bound = ((accepted-size c.args.n c.args.table.now c.requires.0.ok).1, c.requires.1); roomy = (omega (arith, length-replicate {A = ℕ} 2815 0), omega (arith, length-replicate {A = ℕ} 2815 0)) })
 
 pub of_read-requires-2 : goal.of_read-requires-2
 of_read-requires-2 c =

@@ -30,18 +30,16 @@ returns-then-bytes-i c = (
 )
 
 pub loop-i-preserved : goal.loop-i-preserved
-loop-i-preserved c =
-    (
-      omega arith,
-      c.loop-i.invariant.1,
-      same_more c.args.bytes.now (record_of (number_list c.args.d))
-          c.loop-i.i c.loop-i.invariant.2 (c.if-bytes-i.false ∙ c.record_byte.ensures),
-    )
+loop-i-preserved c = (
+  omega arith,
+  c.loop-i.invariant.1,
+  same_more c.args.bytes.now (record_of (number_list c.args.d))
+      c.loop-i.i c.loop-i.invariant.2 (c.if-bytes-i.false ∙ c.record_byte.ensures),
+)
 
 pub returns : goal.returns
-returns c =
-    (
-      λ e. ext_get_or 0 c.args.bytes.now (record_of (number_list c.args.d)) c.loop-i.invariant.1
-          (λ j h. c.loop-i.invariant.2 j (omega (arith, c.loop-i-test.false))),
-      λ q. refl,
-    )
+returns c = (
+  λ e. ext_get_or 0 c.args.bytes.now (record_of (number_list c.args.d)) c.loop-i.invariant.1
+      (λ j h. c.loop-i.invariant.2 j (omega (arith, c.loop-i-test.false))),
+  λ q. refl,
+)

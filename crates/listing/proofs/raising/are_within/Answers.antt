@@ -29,16 +29,15 @@ pub returns-then-not-is_within-5 : goal.returns-then-not-is_within-5
 returns-then-not-is_within-5 c = (λ e. false-true e, λ r. absurd (outside c.is_within-5.ensures c.type_span-3.ensures (ap not c.if-not-is_within-5.true) (run-within r).type2))
 
 pub returns : goal.returns
-returns c =
-    (
-      λ e. within-run (record {
-        nodes = (omega (arith, c.if-nodes-eq0.false), omega (arith, c.if-nodes-gt3.false));
-        type0 = kept-inside c.is_within.ensures c.type_span.ensures (ap not c.if-not-is_within.false;)
-        links0 = kept-inside c.is_within-2.ensures c.root_span.ensures (ap not c.if-not-is_within-2.false;)
-        type1 = kept-inside c.is_within-3.ensures c.type_span-2.ensures (ap not c.if-not-is_within-3.false;)
-        links1 = kept-inside c.is_within-4.ensures c.middle_span.ensures (ap not c.if-not-is_within-4.false;)
-        type2 = kept-inside c.is_within-5.ensures c.type_span-3.ensures (ap not c.if-not-is_within-5.false;)
-        links2 = inside c.is_within-6.ensures c.last_span.ensures e;
-      }),
-      λ r. told-inside c.is_within-6.ensures c.last_span.ensures (run-within r).links2,
-    )
+returns c = (
+  λ e. within-run (record {
+    nodes = (omega (arith, c.if-nodes-eq0.false), omega (arith, c.if-nodes-gt3.false));
+    type0 = kept-inside c.is_within.ensures c.type_span.ensures (ap not c.if-not-is_within.false);
+    links0 = kept-inside c.is_within-2.ensures c.root_span.ensures (ap not c.if-not-is_within-2.false);
+    type1 = kept-inside c.is_within-3.ensures c.type_span-2.ensures (ap not c.if-not-is_within-3.false);
+    links1 = kept-inside c.is_within-4.ensures c.middle_span.ensures (ap not c.if-not-is_within-4.false);
+    type2 = kept-inside c.is_within-5.ensures c.type_span-3.ensures (ap not c.if-not-is_within-5.false);
+    links2 = inside c.is_within-6.ensures c.last_span.ensures e;
+  }),
+  λ r. told-inside c.is_within-6.ensures c.last_span.ensures (run-within r).links2,
+)

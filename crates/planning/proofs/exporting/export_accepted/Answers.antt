@@ -2,7 +2,6 @@
 use borrow.Author.Rules.{rules}
 use Rattle.pairs.proofs.Readings.{told-accepted}
 use Rattle.planning.proofs.Exports.{makes_none, makes-as, read-refused, read-accepted}
-use borrow.Author.Rules.{rules}
 use Rattle.planning.proofs.exporting.export_accepted.Goals as goal
 
 pub export_graph-requires : goal.export_graph-requires

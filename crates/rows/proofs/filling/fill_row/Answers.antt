@@ -45,7 +45,7 @@ overflow_add-next-then-cell-ne0 c = omega (arith, turn-room c.loop-f.invariant c
 
 pub loop-f-preserved : goal.loop-f-preserved
 loop-f-preserved c = elim c.if-cell-ne0.branch [
-  then-cell-ne0 w ↦ rw (w.graph-is, w.next-is) (turn-some c.loop-f.invariant c.loop-f-test.true (search rules) w.link.ensures)
+  | then-cell-ne0 w ↦ rw (w.graph-is, w.next-is) (turn-some c.loop-f.invariant c.loop-f-test.true (search rules) w.link.ensures)
   | else-cell-ne0 w ↦ rw (w.graph-is, w.next-is) (turn-none c.loop-f.invariant c.loop-f-test.true (search rules))
 ]
 
