@@ -134,9 +134,13 @@ impl Sources {
 
     fn resolve(&mut self, file: &str, word: &str) -> Option<Place> {
         let here = self.file(file);
-        if let Some((alias, name)) = word.split_once('.') {
-            let module = here.modules.get(alias)?.clone();
-            return self.resolve_in(&module, name);
+        // What stands behind a dot is a name of a module, or else a field of what stands before it.
+        if let Some((head, rest)) = word.split_once('.') {
+            let name = rest.split('.').next().unwrap_or(rest);
+            return match here.modules.get(head).cloned() {
+                Some(module) => self.resolve_in(&module, name),
+                None => self.resolve(file, head),
+            };
         }
         if let Some(owner) = here.constructors.get(word) {
             return Some(Place {
@@ -159,9 +163,12 @@ impl Sources {
     }
 
     fn resolve_in(&mut self, module: &str, name: &str) -> Option<Place> {
-        let rest = module.strip_prefix("Rattle·")?;
+        let rest = module.strip_prefix("Rattle.")?;
         let (krate, path) = rest.split_once('.')?;
-        let krate = krate.split('·').next()?;
+        // A library of the toolchain has no folder here.
+        if !self.root.join("crates").join(krate).is_dir() {
+            return None;
+        }
         if let Some(declared) = path.strip_prefix("specs.declared.") {
             return self.declared(krate, declared, name);
         }
@@ -172,7 +179,7 @@ impl Sources {
 
     /// An enum or a struct of the code. The path names its modules, then the type itself, or its variants.
     fn declared(&mut self, krate: &str, path: &str, _name: &str) -> Option<Place> {
-        let segments: Vec<&str> = path.split('.').filter(|s| *s != "the-variants").collect();
+        let segments: Vec<&str> = path.split('.').filter(|s| *s != "TheVariants").collect();
         let (name, modules) = segments.split_last()?;
         let file = if modules.is_empty() {
             format!("crates/{krate}/src/lib.rt")

@@ -12,12 +12,14 @@ use Rattle.request.proofs.put_answer.Goals as goal
 pub put_reply-requires : goal.put_reply-requires
 put_reply-requires c =
     let s = c.args in
-    let size : length c.answer-reply.new.1.1.1.1.1.0 ≡ 4854 = omega arith in (
-      λ l e.
+    let size : length c.answer-reply.new.output ≡ 4854 = omega arith in
+    record {
+      bounded = λ l e.
           let fits = answering-bounded s.parts.n _ _ _ s.operation (replicate 4854 0) l (sym (ap (λ (x : Result). x.reply) c.answer-reply.ensures) ∙ e) in
-          omega (arith, size, fits, length-replicate {A = ℕ} 4854 0),
-      (omega arith, search rules),
-    )
+          omega (arith, size, fits, length-replicate {A = ℕ} 4854 0);
+      output_len_bound = omega arith;
+      in_bounds = search rules;
+    }
 
 pub returns : goal.returns
 returns c =

@@ -6,7 +6,7 @@ use borrow.Author.Rules.{rules}
 use Rattle.request.proofs.put_words.Goals as goal
 
 pub put_answer-requires : goal.put_answer-requires
-put_answer-requires c = (c.parse-parsed.ensures.inside _ _ c.in-Asked.is, search rules)
+put_answer-requires c = record { all_inside = c.parse-parsed.ensures.inside _ _ c.in-Asked.is; in_bounds = search rules }
 
 pub returns-in-Bad : goal.returns-in-Bad
 returns-in-Bad c =

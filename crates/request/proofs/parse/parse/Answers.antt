@@ -19,5 +19,5 @@ returns-in-4 c = parses-asked _ c.if-input-lt2.false _ (operation-byte _ _ c.in-
 
 pub returns-in_default : goal.returns-in_default
 returns-in_default c =
-    let other = c.in_default.rest in
+    let other = c.in_default.in_default-own.rest in
     parses-other _ c.if-input-lt2.false (operation-none _ other.0.0.0.1 other.0.0.1 other.0.1 other.1)

@@ -5,7 +5,7 @@ use Rattle.request.proofs.reply.put_record.Goals as goal
 
 pub put_decimal-number-requires : goal.put_decimal-number-requires
 put_decimal-number-requires c =
-    omega (arith, c.put_word-ok.ensures.next-is, decimal-short c.args.count (omega (arith, c.requires.0)))
+    omega (arith, c.put_word-ok.ensures.next-is, decimal-short c.args.count (omega (arith, c.requires.count_bound)))
 
 pub put_word-space-requires : goal.put_word-space-requires
 put_word-space-requires c =
@@ -13,7 +13,7 @@ put_word-space-requires c =
       arith,
       c.put_word-ok.ensures.next-is,
       c.put_decimal-number.ensures.next-is,
-      decimal-short c.args.count (omega (arith, c.requires.0)),
+      decimal-short c.args.count (omega (arith, c.requires.count_bound)),
     )
 
 pub put_hexadecimal-requires : goal.put_hexadecimal-requires
@@ -23,9 +23,9 @@ put_hexadecimal-requires c =
       c.put_word-ok.ensures.next-is,
       c.put_decimal-number.ensures.next-is,
       c.put_word-space.ensures.next-is,
-      decimal-short c.args.count (omega (arith, c.requires.0)),
+      decimal-short c.args.count (omega (arith, c.requires.count_bound)),
       length-hexadecimal c.args.bytes.now,
-      c.requires.1.0,
+      c.requires.bytes_len_bound,
     )
 
 pub returns : goal.returns

@@ -9,20 +9,30 @@ use Rattle.request.proofs.reply.put_reply.Goals as goal
 
 pub slice_bounds-put_record-end : goal.slice_bounds-put_record-end
 slice_bounds-put_record-end c =
-    sym (length-take-le _ c.args.output.now (answer-bounded c.args.reply c.requires.0 _ (sym c.answer_of-answer.ensures ∙ c.in-Length.is)))
+    sym (length-take-le _ c.args.output.now (answer-bounded c.args.reply c.requires.bounded _ (sym c.answer_of-answer.ensures ∙ c.in-Length.is)))
 
 pub put_record-requires : goal.put_record-requires
 put_record-requires c =
-    let fits = answer-bounded c.args.reply c.requires.0 _ (sym c.answer_of-answer.ensures ∙ c.in-Length.is) in
-    (omega (arith, fits, c.requires.1.0), (omega (arith, fits, c.requires.1.0, length-take-le _ c.args.output.now fits), search rules))
+    let fits = answer-bounded c.args.reply c.requires.bounded _ (sym c.answer_of-answer.ensures ∙ c.in-Length.is) in
+    record {
+      count_bound = omega (arith, fits, c.requires.output_len_bound);
+      bytes_len_bound = omega (arith, fits, c.requires.output_len_bound, length-take-le _ c.args.output.now fits);
+      in_bounds = search rules;
+    }
 
 pub put_refused-requires : goal.put_refused-requires
 put_refused-requires c =
-    (number_small c.args.reply (sym c.answer_of-answer.ensures ∙ c.in-Refused.is), search rules)
+    record {
+      number_bound = number_small c.args.reply (sym c.answer_of-answer.ensures ∙ c.in-Refused.is);
+      in_bounds = search rules;
+    }
 
 pub put_refused_graph-requires : goal.put_refused_graph-requires
 put_refused_graph-requires c =
-    (number_small c.args.reply (sym c.answer_of-answer.ensures ∙ c.in-RefusedGraph.is), search rules)
+    record {
+      number_bound = number_small c.args.reply (sym c.answer_of-answer.ensures ∙ c.in-RefusedGraph.is);
+      in_bounds = search rules;
+    }
 
 pub returns-in-Length : goal.returns-in-Length
 returns-in-Length c =
