@@ -4,9 +4,6 @@ use native.Mathlib.Omega.{arith}
 use lib.Seq.{length-take-le}
 use Rattle.gathering.proofs.Told.{no_length}
 use Rattle.store.proofs.Settling.{settle-none, settle-some}
-use Rattle.store.proofs.settle.Reads as reads
-use Rattle.store.proofs.settle.Lts as lts
-use Rattle.gathering.proofs.parts.copy.Reads as copy-reads
 use Rattle.store.proofs.settle.Goals as goal
 
 pub returns-in_default : goal.returns-in_default

@@ -66,9 +66,9 @@ loop-version-preserved c =
     let inside = c.loop-version-test.true in
     let found = c.length_in.ensures.0 in
     elim c.if-length_in-ne0.branch [
-    | then-length_in-ne0+in-Length w ↦
-      going-same (going_step so inside (λ e. w.if-length_in-ne0.true (found ∙ e)) w.step-reply.ensures _ w.in-Length.is) w.part-is w.state-is w.used-is
-    | else-length_in-ne0 w ↦ going-same (going-absent so inside (sym found ∙ w.if-length_in-ne0.false)) w.part-is w.state-is w.used-is
+      | then-length_in-ne0+in-Length w ↦
+          going-same (going_step so inside (λ e. w.if-length_in-ne0.true (found ∙ e)) w.step-reply.ensures _ w.in-Length.is) w.part-is w.state-is w.used-is
+      | else-length_in-ne0 w ↦ going-same (going-absent so inside (sym found ∙ w.if-length_in-ne0.false)) w.part-is w.state-is w.used-is
     ]
 
 pub shape_of-part : goal.shape_of-part

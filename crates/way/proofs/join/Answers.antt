@@ -22,33 +22,33 @@ pub returns-in_default : goal.returns-in_default
 returns-in_default c =
     let a = c.args in
     let common = common-part a.n a.table.now _ a.part.now a.program.now c.length_at-length.result c.of_records-reply.result _
-        c.requires.0.ok refl c.requires.3 c.length_at-length.ensures c.if-length-eq0.false c.of_records-reply.ensures in
+    c.requires.0.ok refl c.requires.3 c.length_at-length.ensures c.if-length-eq0.false c.of_records-reply.ensures in
     joins-refused common (no_length c.of_records-reply.result c.in_default.not-Length)
 
 pub slice_bounds-record-end : goal.slice_bounds-record-end
 slice_bounds-record-end c =
     let a = c.args in
     let common = common-part a.n a.table.now _ a.part.now a.program.now c.length_at-length.result c.of_records-reply.result _
-        c.requires.0.ok refl c.requires.3 c.length_at-length.ensures c.if-length-eq0.false c.of_records-reply.ensures in
+    c.requires.0.ok refl c.requires.3 c.length_at-length.ensures c.if-length-eq0.false c.of_records-reply.ensures in
     common-fits common _ c.in-Length.is
 
 pub slice_bounds-put_measured-end : goal.slice_bounds-put_measured-end
 slice_bounds-put_measured-end c =
     let a = c.args in
     let common = common-part a.n a.table.now _ a.part.now a.program.now c.length_at-length.result c.of_records-reply.result _
-        c.requires.0.ok refl c.requires.3 c.length_at-length.ensures c.if-length-eq0.false c.of_records-reply.ensures in
+    c.requires.0.ok refl c.requires.3 c.length_at-length.ensures c.if-length-eq0.false c.of_records-reply.ensures in
     sym (common.is-long _ c.in-Length.is)
 
 pub put_measured-requires-2 : goal.put_measured-requires-2
 put_measured-requires-2 c =
     let a = c.args in
     let common = common-part a.n a.table.now _ a.part.now a.program.now c.length_at-length.result c.of_records-reply.result _
-        c.requires.0.ok refl c.requires.3 c.length_at-length.ensures c.if-length-eq0.false c.of_records-reply.ensures in
+    c.requires.0.ok refl c.requires.3 c.length_at-length.ensures c.if-length-eq0.false c.of_records-reply.ensures in
     (common-short common _ c.in-Length.is, omega arith)
 
 pub returns : goal.returns
 returns c =
     let a = c.args in
     let common = common-part a.n a.table.now _ a.part.now a.program.now c.length_at-length.result c.of_records-reply.result _
-        c.requires.0.ok refl c.requires.3 c.length_at-length.ensures c.if-length-eq0.false c.of_records-reply.ensures in
+    c.requires.0.ok refl c.requires.3 c.length_at-length.ensures c.if-length-eq0.false c.of_records-reply.ensures in
     joins-common common _ c.in-Length.is c.put_measured-2.ensures

@@ -8,29 +8,28 @@ pub returns-in_default : goal.returns-in_default
 returns-in_default c =
     let a = c.args in
     let joined = entered a.n a.table.now a.slots.now a.part.now a.version c.length_in-length.result c.requires.2 c.requires.3
-        c.length_in-length.ensures.0 c.join-reply.ensures in
+    c.length_in-length.ensures.0 c.join-reply.ensures in
     steps-large joined a.state.now (no_length c.join-reply.result c.in_default.not-Length)
 
 pub overflow_add-size : goal.overflow_add-size
 overflow_add-size c =
     let a = c.args in
     let joined = entered a.n a.table.now a.slots.now a.part.now a.version c.length_in-length.result c.requires.2 c.requires.3
-        c.length_in-length.ensures.0 c.join-reply.ensures in
+    c.length_in-length.ensures.0 c.join-reply.ensures in
     omega (arith, size-short joined a.state.now _ c.in-Length.is)
 
 pub slice_bounds-pack-end : goal.slice_bounds-pack-end
 slice_bounds-pack-end c =
     let a = c.args in
     let joined = entered a.n a.table.now a.slots.now a.part.now a.version c.length_in-length.result c.requires.2 c.requires.3
-        c.length_in-length.ensures.0 c.join-reply.ensures in
+    c.length_in-length.ensures.0 c.join-reply.ensures in
     omega (arith, size-short joined a.state.now _ c.in-Length.is, joined.joins.parted.long)
 
 pub pack-requires : goal.pack-requires
 pack-requires c =
     let a = c.args in
     let joined = entered a.n a.table.now a.slots.now a.part.now a.version c.length_in-length.result c.requires.2 c.requires.3
-        c.length_in-length.ensures.0 c.join-reply.ensures in
-    (
+    c.length_in-length.ensures.0 c.join-reply.ensures in (
       c.requires.0.ok,
       c.requires.1,
       omega (arith, c.requires.2),
@@ -43,6 +42,6 @@ pub returns : goal.returns
 returns c =
     let a = c.args in
     let joined = entered a.n a.table.now a.slots.now a.part.now a.version c.length_in-length.result c.requires.2 c.requires.3
-        c.length_in-length.ensures.0 c.join-reply.ensures in
+    c.length_in-length.ensures.0 c.join-reply.ensures in
     steps_on joined a.state.now _ c.in-Length.is c.pack.result _
     c.pack.ensures.long c.pack.ensures.inside c.pack.ensures.packs

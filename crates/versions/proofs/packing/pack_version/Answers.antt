@@ -22,7 +22,7 @@ pub returns-in_default : goal.returns-in_default
 returns-in_default c =
     let a = c.args in
     let d = differs-in a.n a.table.now a.slots.now a.part.now a.version c.length_in-length.result c.part_from-reply.result _
-        c.length_in-length.ensures.0 c.if-length-eq0.false c.part_from-reply.ensures in
+    c.length_in-length.ensures.0 c.if-length-eq0.false c.part_from-reply.ensures in
     let refused = no_length c.part_from-reply.result c.in_default.not-Length in
     record {
       long = refl;
@@ -34,35 +34,35 @@ pub slice_bounds-record-end : goal.slice_bounds-record-end
 slice_bounds-record-end c =
     let a = c.args in
     let d = differs-in a.n a.table.now a.slots.now a.part.now a.version c.length_in-length.result c.part_from-reply.result _
-        c.length_in-length.ensures.0 c.if-length-eq0.false c.part_from-reply.ensures in
+    c.length_in-length.ensures.0 c.if-length-eq0.false c.part_from-reply.ensures in
     size_fits d _ c.in-Length.is
 
 pub slice_bounds-put_measured-end : goal.slice_bounds-put_measured-end
 slice_bounds-put_measured-end c =
     let a = c.args in
     let d = differs-in a.n a.table.now a.slots.now a.part.now a.version c.length_in-length.result c.part_from-reply.result _
-        c.length_in-length.ensures.0 c.if-length-eq0.false c.part_from-reply.ensures in
+    c.length_in-length.ensures.0 c.if-length-eq0.false c.part_from-reply.ensures in
     size_is d _ c.in-Length.is
 
 pub put_measured-requires : goal.put_measured-requires
 put_measured-requires c =
     let a = c.args in
     let d = differs-in a.n a.table.now a.slots.now a.part.now a.version c.length_in-length.result c.part_from-reply.result _
-        c.length_in-length.ensures.0 c.if-length-eq0.false c.part_from-reply.ensures in
+    c.length_in-length.ensures.0 c.if-length-eq0.false c.part_from-reply.ensures in
     (omega (arith, size_is d _ c.in-Length.is, d.short _ c.in-Length.is), omega (arith, c.requires.2, c.requires.3))
 
 pub overflow_add-result-2 : goal.overflow_add-result-2
 overflow_add-result-2 c =
     let a = c.args in
     let d = differs-in a.n a.table.now a.slots.now a.part.now a.version c.length_in-length.result c.part_from-reply.result _
-        c.length_in-length.ensures.0 c.if-length-eq0.false c.part_from-reply.ensures in
+    c.length_in-length.ensures.0 c.if-length-eq0.false c.part_from-reply.ensures in
     omega (arith, d.short _ c.in-Length.is, c.requires.2, c.requires.3)
 
 pub returns : goal.returns
 returns c =
     let a = c.args in
     let d = differs-in a.n a.table.now a.slots.now a.part.now a.version c.length_in-length.result c.part_from-reply.result _
-        c.length_in-length.ensures.0 c.if-length-eq0.false c.part_from-reply.ensures in
+    c.length_in-length.ensures.0 c.if-length-eq0.false c.part_from-reply.ensures in
     record {
       long = c.put_measured.ensures.long;
       near = length-bounded _ _ (omega (arith, c.requires.3, d.short _ c.in-Length.is));

@@ -44,10 +44,10 @@ loop-version-preserved c =
     let so = c.loop-version.invariant in
     let inside = c.loop-version-test.true in
     elim c.if-left-eq1.branch [
-    | then-left-eq1+else-end-eq0+else-not-restore w ↦
-      restored_same (restored-present so inside w.if-left-eq1.true w.end_at-end.ensures w.if-end-eq0.false w.restore.ensures w.if-not-restore.false)
-      w.slots-is w.at-is
-    | else-left-eq1 w ↦ restored_same (restored-absent so inside w.if-left-eq1.false) w.slots-is w.at-is
+      | then-left-eq1+else-end-eq0+else-not-restore w ↦
+          restored_same (restored-present so inside w.if-left-eq1.true w.end_at-end.ensures w.if-end-eq0.false w.restore.ensures w.if-not-restore.false)
+          w.slots-is w.at-is
+      | else-left-eq1 w ↦ restored_same (restored-absent so inside w.if-left-eq1.false) w.slots-is w.at-is
     ]
 
 pub returns : goal.returns
