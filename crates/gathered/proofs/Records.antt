@@ -26,7 +26,7 @@ use Rattle.record.specs.Read.{Reading, refused, reading, accepted, graph_of_rows
 use Rattle.record.proofs.Accepted.{accepted-rules}
 use Rattle.replies.specs.declared.Side.TheVariants.{First}
 use Rattle.replies.specs.declared.Reply.{Reply}
-use Rattle.replies.specs.declared.Reply.TheVariants.{Length, Graph as OfGraph, TooLarge}
+use Rattle.replies.specs.declared.Reply.TheVariants.{Graph as OfGraph, TooLarge}
 use Rattle.replies.specs.Reply.{Result, refusing, result_of, length_of}
 use Rattle.engine.specs.Generalizing.{generalized}
 use Rattle.calls.specs.Calls.{generalizing, rewriting}

@@ -31,7 +31,7 @@ use Rattle.replies.specs.declared.Side.TheVariants.{First, Second}
 use Rattle.replies.specs.declared.answers.Answer.{Answer}
 use Rattle.replies.specs.declared.answers.Answer.TheVariants as answer
 use Rattle.replies.specs.declared.Reply.{Reply}
-use Rattle.replies.specs.declared.Reply.TheVariants.{Length, Table, Graph, NoRoom, Cycle, Clash, TooLarge, NotBelow, NoWantedType}
+use Rattle.replies.specs.declared.Reply.TheVariants.{Table, Graph, NoRoom, Cycle, Clash, TooLarge, NotBelow, NoWantedType}
 use Rattle.replies.specs.Reply.{Result, Bounded, answer_of, refusal, refusing, result_of}
 use Rattle.subsume.specs.Promise.{rows_below}
 use Rattle.calls.specs.Calls.{checked, generalizing, ordering, unifying, differing}

@@ -20,7 +20,7 @@ use Rattle.encode.specs.Encode.{fitted, yielding}
 use Rattle.record.specs.Read.{Reading, refused, accepted, reading}
 use Rattle.replies.specs.declared.Side.TheVariants.{First}
 use Rattle.replies.specs.declared.Reply.{Reply}
-use Rattle.replies.specs.declared.Reply.TheVariants.{Length, Graph, NoRoom, WrongVersion}
+use Rattle.replies.specs.declared.Reply.TheVariants.{Graph, WrongVersion}
 use Rattle.replies.specs.Reply.{Result, result_of}
 use Rattle.record.specs.declared.GraphFault.TheVariants.{Malformed}
 use Rattle.calls.specs.Calls.{checked}

@@ -21,7 +21,6 @@ use Rattle.lattice.specs.Labels.{table_labels, OfAnySize}
 use Rattle.encode.specs.declared.Written.TheVariants as written
 use Rattle.encode.specs.Encode.{yielding, fitted}
 use Rattle.record.specs.Read.{graph_of_rows}
-use Rattle.replies.specs.declared.Reply.TheVariants.{Length}
 use Rattle.replies.specs.Reply.{Result, result_of}
 use Rattle.difference.specs.Difference.{all_wanted, numbered}
 use Rattle.calls.specs.Calls.{differing}

@@ -1,6 +1,6 @@
 use mathlib.Core.Path.{◌∙◌, sym, ap, ap₂, refl}
 use mathlib.Core.Logic.{inl, inr}
-use Prim.Native.Nat.{ℕ, ◌-◌}
+use Prim.Native.Nat.{ℕ}
 use native.Mathlib.Omega.{arith}
 use lib.ListN.{length, length-set, replicate, length-replicate, get_or-replicate}
 use Rattle.graphs.specs.Number.{Canonical}

@@ -1,6 +1,6 @@
 use mathlib.Core.Path.{refl}
 use mathlib.Core.Logic.{inl, inr}
-use Prim.Native.Nat.{◌+◌, ◌-◌}
+use Prim.Native.Nat.{◌+◌}
 use native.Mathlib.Omega.{arith}
 use Rattle.product.proofs.Merging.{merge-start, merge-ended, merge-left, merge-right, merge-room, merge-nodes, merge-full, merge-both, merge-spreads}
 use Rattle.product.proofs.pair_links.Goals as goal

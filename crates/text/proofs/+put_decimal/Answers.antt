@@ -1,10 +1,8 @@
 -- `put_decimal` meets its contract: it puts the last digit behind the digits of a tenth of the number.
 use mathlib.Core.Path.{ap}
-use Prim.Native.Nat.{ℕ, ◌<◌}
 use native.Mathlib.Omega.{arith}
 use lib.ListN.{length}
 use Rattle.text.proofs.Texts.{decimal-one, decimal-length, puts-digit, puts-last}
-use borrow.Author.Rules.{rules}
 use Rattle.text.proofs.+put_decimal.Goals as goal
 
 pub bounds-out-at : goal.bounds-out-at

@@ -1,4 +1,3 @@
-use Prim.Native.Nat.{◌-◌}
 use mathlib.Core.Path.{sym}
 use Rattle.way.proofs.Starts.{starts-short, begun-start, begun_all, begun-other, begun-next}
 use borrow.Author.Rules.{rules}

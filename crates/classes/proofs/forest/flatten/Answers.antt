@@ -1,5 +1,4 @@
 use native.Mathlib.Numerals.{add-one}
-use Prim.Native.Nat.{◌-◌}
 use native.Mathlib.Omega.{arith}
 use Rattle.classes.proofs.Roots.{flat_start, flat_up, flat_step}
 use Rattle.classes.proofs.forest.flatten.Goals as goal

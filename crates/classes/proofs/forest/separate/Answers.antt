@@ -1,6 +1,5 @@
 use native.Mathlib.Numerals.{add-one}
 use mathlib.Core.Path.{◌∙◌}
-use Prim.Native.Nat.{◌-◌}
 use native.Mathlib.Omega.{arith}
 use lib.ListN.{length-set}
 use Rattle.classes.proofs.Roots.{separate-step}

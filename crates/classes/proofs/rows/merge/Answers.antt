@@ -1,4 +1,3 @@
-use Prim.Native.Nat.{◌-◌}
 use native.Mathlib.Omega.{arith}
 use Rattle.classes.proofs.Merging.{merge-start, merge-done, left_in, right-in, both-in, in-a, in_b, pair-room, merge-left, merge-right, merge-both}
 use Rattle.classes.proofs.rows.merge.Goals as goal

@@ -1,5 +1,4 @@
 -- `reader::map_at` meets its contract: the loop joins the bytes from the last one down.
-use Prim.Native.Nat.{◌-◌}
 use Rattle.decode.proofs.Word.{Joining}
 use Rattle.decode.proofs.reader.map_at.Given as goal
 

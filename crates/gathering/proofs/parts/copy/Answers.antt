@@ -1,5 +1,4 @@
 use native.Mathlib.Omega.{arith}
-use Prim.Native.Nat.{◌-◌}
 use Rattle.gathering.proofs.Spans.{copied-start, copied-inside, copied_next, copied-long, copied_all}
 use Rattle.gathering.proofs.parts.copy.Goals as goal
 

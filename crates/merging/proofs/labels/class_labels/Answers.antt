@@ -1,5 +1,5 @@
 -- `class_labels` meets its contract: all labels are top; the second graph's nodes lower them, then the first graph's do.
-use Rattle.std.proofs.Common.{ℕ, ◌+◌, ◌-◌, ◌<◌, ap, ◌∙◌, arith}
+use Rattle.std.proofs.Common.{ℕ, ◌+◌, ◌<◌, ap, ◌∙◌, arith}
 use lib.ListN.{length-replicate}
 use Rattle.bounds.specs.Sets.{meet_in}
 use Rattle.layout.specs.Layout.{size}

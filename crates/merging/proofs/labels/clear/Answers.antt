@@ -1,4 +1,4 @@
-use Rattle.std.proofs.Common.{◌-◌, arith}
+use Rattle.std.proofs.Common.{arith}
 use Rattle.merging.proofs.Lowering.{cleared-step}
 use Rattle.merging.proofs.labels.clear.Goals as goal
 

@@ -1,4 +1,4 @@
-use Rattle.std.proofs.Common.{◌-◌, sym, ap, ◌∙◌, arith}
+use Rattle.std.proofs.Common.{sym, ap, ◌∙◌, arith}
 use Rattle.layout.specs.Layout.{label_at}
 use Rattle.merging.specs.Clash.{contradicts}
 use Rattle.merging.proofs.Lowering.{any-start, any_next, any_here, any-end}

@@ -1,5 +1,4 @@
 -- `lower` meets its contract. The loop's invariant: the nodes from v on have lowered the labels of their classes.
-use Rattle.std.proofs.Common.{◌-◌}
 use Rattle.bounds.specs.Sets.{meet_in}
 use Rattle.merging.proofs.Lowering.{Lowering}
 use Rattle.merging.proofs.labels.lower.Given as goal

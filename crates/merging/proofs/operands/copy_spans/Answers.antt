@@ -1,4 +1,4 @@
-use Rattle.std.proofs.Common.{◌+◌, ◌-◌, arith}
+use Rattle.std.proofs.Common.{◌+◌, arith}
 use Rattle.layout.proofs.Order.{directory, row_low}
 use Rattle.merging.proofs.Words.{row_near, row-near-end}
 use Rattle.merging.proofs.Copying.{spans-start, spans_step, spans-done}

@@ -1,10 +1,9 @@
-use Rattle.std.proofs.Common.{ℕ, ◌+◌, ◌-◌, set, sym, subst, arith}
+use Rattle.std.proofs.Common.{ℕ, ◌+◌, set, sym, subst, arith}
 use Rattle.layout.specs.Layout.{size}
 use Rattle.merging.specs.Rows.{WordsCopied}
 use Rattle.layout.proofs.Order.{directory, rows_inside, row_low}
 use Rattle.layout.proofs.Sums.{words-few}
 use Rattle.merging.proofs.Copying.{words-start, words_step, words-done}
-use Rattle.std.proofs.num.wrapping_add_u16.Reads as wrapping-add-u16-reads
 use Rattle.merging.proofs.operands.copy_words.Goals as goal
 
 pub bounds-graph-0 : goal.bounds-graph-0

@@ -2,7 +2,6 @@
 use Rattle.std.proofs.Common.{◌-◌, ◌<◌, ◌≤◌}
 use Rattle.layout.specs.Layout.{row_from}
 use Rattle.merging.specs.Rows.{WordsCopied}
-use Rattle.std.proofs.num.wrapping_add_u16.Reads as wrapping-add-u16-reads
 use Rattle.merging.proofs.operands.copy_words.Given as goal
 
 abbrev pub invariant-loop-k : goal.invariant-loop-k

@@ -1,4 +1,4 @@
-use Rattle.std.proofs.Common.{◌-◌, arith}
+use Rattle.std.proofs.Common.{arith}
 use Rattle.merging.proofs.Copying.{row-start, row_step, row_done}
 use Rattle.merging.proofs.quotient.copy_row.Goals as goal
 

@@ -1,4 +1,4 @@
-use Rattle.std.proofs.Common.{ℕ, ◌+◌, ◌-◌, set, refl, ap, ◌∙◌, arith, length-set}
+use Rattle.std.proofs.Common.{ℕ, ◌+◌, set, refl, ap, ◌∙◌, arith, length-set}
 use Rattle.layout.specs.Builder.{put_label}
 use Rattle.merging.proofs.Filling.{fill_start, fill-room, fill-asks, fill-bound, fill-place, fill-long, fill_step, fill_done, label-known}
 use Rattle.merging.proofs.quotient.quotient.Goals as goal

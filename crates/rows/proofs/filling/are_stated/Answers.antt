@@ -1,5 +1,4 @@
 use mathlib.Core.Path.{ap, subst}
-use Prim.Native.Nat.{◌-◌}
 use native.Mathlib.Omega.{arith}
 use borrow.Author.Rules.{rules}
 use Rattle.lattice.specs.Label.{Label}

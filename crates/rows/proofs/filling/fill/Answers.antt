@@ -1,4 +1,3 @@
-use Prim.Native.Nat.{◌-◌}
 use native.Mathlib.Omega.{arith}
 use Rattle.rows.proofs.FilledRows.{filling-start, filling-room, next_low, filling_step, filling-done}
 use Rattle.rows.proofs.filling.fill.Goals as goal

@@ -1,5 +1,5 @@
 use mathlib.Core.Path.{refl}
-use Prim.Native.Nat.{◌+◌, ◌-◌}
+use Prim.Native.Nat.{◌+◌}
 use native.Mathlib.Omega.{arith}
 use Rattle.layout.proofs.Order.{directory}
 use Rattle.rows.proofs.LentRows.{making-start, making-inside, making-before, making-room, making-feature, making-target, making-link, making-row, making-done}

@@ -1,10 +1,6 @@
 use mathlib.Core.Path.{refl, sym, ◌∙◌}
-use Prim.Native.Nat.{◌-◌}
 use borrow.Author.Rules.{rules}
 use Rattle.rows.proofs.Known.{stop, next, end}
-use Rattle.rows.proofs.placing.all_known.Reads as reads
-use Rattle.rows.proofs.placing.all_known.Lts as lts
-use Rattle.rows.proofs.placing.is_known.Reads as is-known-reads
 use Rattle.rows.proofs.placing.all_known.Goals as goal
 
 pub loop-i-init : goal.loop-i-init

@@ -1,9 +1,6 @@
 -- `placing::all_known_lem` meets its contract. The loop's invariant: all rows are known exactly where those from i on are.
 use Prim.Native.Nat.{◌-◌, ◌≤◌}
 use Rattle.rows.proofs.Known.{Left}
-use Rattle.rows.proofs.placing.all_known.Reads as reads
-use Rattle.rows.proofs.placing.all_known.Lts as lts
-use Rattle.rows.proofs.placing.is_known.Reads as is-known-reads
 use Rattle.rows.proofs.placing.all_known.Given as goal
 
 abbrev pub invariant-loop-i : goal.invariant-loop-i

@@ -1,8 +1,6 @@
 -- `placing::is_known` meets its contract, test by test.
 use borrow.Author.Rules.{rules}
 use Rattle.rows.proofs.Known.{far-feature, far-parent, near}
-use Rattle.rows.proofs.placing.is_known.Reads as reads
-use Rattle.rows.proofs.placing.is_known.Lts as lts
 use Rattle.rows.proofs.placing.is_known.Goals as goal
 
 pub returns-then-row-gt63 : goal.returns-then-row-gt63

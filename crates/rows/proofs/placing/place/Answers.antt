@@ -4,8 +4,6 @@ use borrow.Author.Rules.{rules}
 use borrow.Author.Tests.{eq-eqb, ne_eqb}
 use lib.ListN.{get_or}
 use Rattle.rows.specs.Placing.{slot}
-use Rattle.rows.proofs.placing.place.Reads as reads
-use Rattle.rows.proofs.placing.place.Lts as lts
 use Rattle.rows.proofs.placing.place.Goals as goal
 
 pub returns-then-targets-at-ne0 : goal.returns-then-targets-at-ne0

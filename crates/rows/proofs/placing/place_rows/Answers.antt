@@ -1,14 +1,11 @@
 use mathlib.Core.Path.{◌≡◌, sym, ◌∙◌}
 use native.Mathlib.Omega.{arith}
-use Prim.Native.Nat.{ℕ, ◌+◌, ◌-◌}
+use Prim.Native.Nat.{ℕ, ◌+◌}
 use lib.ListN.{get_or}
 use borrow.Author.Rules.{rules}
 use Rattle.rows.specs.Rows.{no_row}
 use Rattle.rows.specs.Placing.{slot}
 use Rattle.rows.proofs.Placed.{placed-start, placed-again, placed-stop, placed_end, placed-length}
-use Rattle.rows.proofs.placing.place_rows.Reads as reads
-use Rattle.rows.proofs.placing.place_rows.Lts as lts
-use Rattle.rows.proofs.placing.place.Reads as place-reads
 use Rattle.rows.proofs.placing.place_rows.Goals as goal
 
 pub loop-i-init : goal.loop-i-init

@@ -3,9 +3,6 @@ use mathlib.Core.Path.{◌≡◌}
 use Prim.Native.Nat.{◌-◌, ◌≤◌}
 use lib.ListN.{length, take}
 use Rattle.rows.specs.Placing.{Placed}
-use Rattle.rows.proofs.placing.place_rows.Reads as reads
-use Rattle.rows.proofs.placing.place_rows.Lts as lts
-use Rattle.rows.proofs.placing.place.Reads as place-reads
 use Rattle.rows.proofs.placing.place_rows.Given as goal
 
 abbrev pub invariant-loop-i : goal.invariant-loop-i

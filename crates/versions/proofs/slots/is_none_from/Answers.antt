@@ -1,6 +1,6 @@
 use mathlib.Core.Path.{◌≡◌}
 use native.Mathlib.Omega.{arith}
-use Prim.Native.Nat.{ℕ, ◌-◌}
+use Prim.Native.Nat.{ℕ}
 use Rattle.versions.proofs.SlotLaws.{seeking-start, seeking-next}
 use Rattle.versions.proofs.slots.is_none_from.Goals as goal
 

@@ -1,7 +1,6 @@
 use mathlib.Core.Path.{ap}
 use mathlib.Core.Bool.{not}
 use native.Mathlib.Omega.{arith}
-use Prim.Native.Nat.{◌-◌}
 use borrow.Author.Tests.{not-true}
 use Rattle.versions.proofs.Unpacked.{restored-start, restored-all, restored-absent, restored-short, restored-refused, restored-present, restored_same}
 use Rattle.versions.proofs.unpacking.restore_all.Goals.{then-left-eq1+else-end-eq0+else-not-restore, else-left-eq1}
