@@ -3,7 +3,7 @@
  * is refused. It prints what examples/difference.stdout has. Make librecord_engine.a first, then
  * build the program with
  *
- *   cc -std=c11 -I include -o difference examples/difference.c target/staticlib/librecord_engine.a
+ *   cc -std=c11 -I include -o difference examples/difference.c crates/record_engine/out/librecord_engine.a
  */
 #include "record_engine.h"
 #include <stdio.h>

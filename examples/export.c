@@ -3,7 +3,7 @@
  * prints what examples/export.stdout has. Make librecord_engine.a first, then build the program
  * with
  *
- *   cc -std=c11 -I include -o export examples/export.c target/staticlib/librecord_engine.a
+ *   cc -std=c11 -I include -o export examples/export.c crates/record_engine/out/librecord_engine.a
  */
 #include "record_engine.h"
 #include <stdio.h>

@@ -3,7 +3,7 @@
  * few. It prints what examples/rows.stdout has. Make librecord_engine.a first, then build the
  * program with
  *
- *   cc -std=c11 -I include -o rows examples/rows.c target/staticlib/librecord_engine.a
+ *   cc -std=c11 -I include -o rows examples/rows.c crates/record_engine/out/librecord_engine.a
  */
 #include "record_engine.h"
 #include <stdio.h>

@@ -1,7 +1,7 @@
 /* Checks four type tables and prints the sentence of each refusal. The program prints what
  * examples/table.stdout has. Make librecord_engine.a first, then build the program with
  *
- *   cc -std=c11 -I include -o table examples/table.c target/staticlib/librecord_engine.a
+ *   cc -std=c11 -I include -o table examples/table.c crates/record_engine/out/librecord_engine.a
  */
 #include "record_engine.h"
 #include <stdio.h>

@@ -2,7 +2,7 @@
  * thread gets the table of the house types and combines two lone nodes over it. The program
  * prints what examples/thread.stdout has. Make librecord_engine.a first, then build it with
  *
- *   cc -std=c11 -pthread -I include -o thread examples/thread.c target/staticlib/librecord_engine.a
+ *   cc -std=c11 -pthread -I include -o thread examples/thread.c crates/record_engine/out/librecord_engine.a
  */
 #include "record_engine.h"
 #include <pthread.h>

@@ -1,7 +1,7 @@
 /* The record engine for C. The static library librecord_engine.a has 23 calls: thirteen on type
  * tables and records, two on planning tables, four on a gathering, three on a store, and one
- * that writes the table of the house types. `rt staticlib record_engine` writes the library to
- * target/staticlib. In the repository, docs/CALLS.md describes each call with examples, and
+ * that writes the table of the house types. `rt lib`, run in crates/record_engine, writes the
+ * library to out there. In the repository, docs/CALLS.md describes each call with examples, and
  * docs/FORMATS.md describes each byte. examples/order.c, examples/difference.c, examples/rows.c,
  * examples/table.c, examples/export.c and examples/thread.c are whole programs.
  *

@@ -1,7 +1,8 @@
-//! Links the static library of the engine, `librecord_engine.a`. `rt staticlib record_engine`
-//! writes the library to the repository's `target/staticlib`. If the library is in another
-//! folder, the environment variable `RECORD_ENGINE_LIB_DIR` has the absolute path of that
-//! folder. If the library is missing, `src/missing.rs` stops the compiler before it links.
+//! Links the static library of the engine, `librecord_engine.a`. `rt lib`, run in the
+//! repository's folder `crates/record_engine`, writes the library to `out` there. If the library
+//! is in another folder, the environment variable `RECORD_ENGINE_LIB_DIR` has the absolute path
+//! of that folder. If the library is missing, `src/missing.rs` stops the compiler before it
+//! links.
 
 use std::env;
 use std::path::{Path, PathBuf};
@@ -21,7 +22,7 @@ fn main() {
     } else {
         println!("cargo::rustc-cfg=archive_missing");
         println!(
-            "cargo::rustc-env=ARCHIVE_MISSING={} is missing: run `rt staticlib record_engine` in the repository's root, or set {FOLDER} to the folder that has it",
+            "cargo::rustc-env=ARCHIVE_MISSING={} is missing: run `rt lib` in the repository's folder crates/record_engine, or set {FOLDER} to the folder that has it",
             archive.display()
         );
     }
@@ -29,5 +30,5 @@ fn main() {
 
 fn in_repository() -> PathBuf {
     let package = env::var("CARGO_MANIFEST_DIR").expect("cargo tells the package's folder");
-    Path::new(&package).join("../../target/staticlib")
+    Path::new(&package).join("../../crates/record_engine/out")
 }

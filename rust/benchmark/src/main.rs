@@ -1,7 +1,7 @@
 //! Measures what every call of the library costs, by the engine and by the peer, which makes the
 //! same calls in fast Rust. The commands
 //!
-//!     rt staticlib record_engine
+//!     (cd crates/record_engine && rt lib)
 //!     cargo run --release --offline --manifest-path rust/Cargo.toml -p benchmark
 //!
 //! measure all rows. This takes some four minutes on a machine that has nothing else to do. A row

@@ -4,9 +4,9 @@ use std::io::Write;
 use std::path::{Path, PathBuf};
 use std::process::{Command, Stdio};
 
-/// Where `rt check` puts the program.
+/// Where `rt ci` and `rt run` put the program.
 pub fn path() -> PathBuf {
-    Path::new(env!("CARGO_MANIFEST_DIR")).join("../../target/bin/mapcalc")
+    Path::new(env!("CARGO_MANIFEST_DIR")).join("../../crates/mapcalc/out/mapcalc")
 }
 
 /// The line that the program prints for an input, without its line end. Panics if the program
@@ -16,7 +16,12 @@ pub fn run(program: &Path, input: &[u8]) -> String {
         .stdin(Stdio::piped())
         .stdout(Stdio::piped())
         .spawn()
-        .unwrap_or_else(|error| panic!("{}: {error}; run `rt check` first", program.display()));
+        .unwrap_or_else(|error| {
+            panic!(
+                "{}: {error}; run `rt run` in crates/mapcalc first",
+                program.display()
+            )
+        });
     let mut stdin = child.stdin.take().expect("a pipe");
     // The program may end before it has read all of a bad input.
     let _ = stdin.write_all(input);

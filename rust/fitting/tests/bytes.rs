@@ -121,6 +121,8 @@ fn a_file_is_replaced_and_keeps_its_permissions() {
         "{error}"
     );
     assert!(!fs::metadata("/dev/null").expect("a device").is_file());
+    // `rt ci` refuses a checkout that has a link.
+    fs::remove_file(folder.join("link")).expect("the link is removed");
 }
 
 #[test]

@@ -28,10 +28,10 @@
 //! each byte.
 //!
 //! The functions behind these calls are proved (`crates/engine`). This package only passes
-//! each call on to the static library `librecord_engine.a`. `rt staticlib record_engine`
-//! writes the library to the repository's `target/staticlib`. If the library is in another
-//! folder, the environment variable `RECORD_ENGINE_LIB_DIR` has the absolute path of that
-//! folder.
+//! each call on to the static library `librecord_engine.a`. `rt lib`, run in the repository's
+//! folder `crates/record_engine`, writes the library to `out` there. If the library is in
+//! another folder, the environment variable `RECORD_ENGINE_LIB_DIR` has the absolute path of
+//! that folder.
 //!
 //! # Type table
 //!

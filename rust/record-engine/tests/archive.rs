@@ -34,7 +34,7 @@ fn a_missing_archive_is_an_error_only_where_it_is_linked() {
     assert!(!built.status.success(), "{errors}");
     let archive = empty().join("librecord_engine.a");
     let message = format!(
-        "{} is missing: run `rt staticlib record_engine` in the repository's root, or set \
+        "{} is missing: run `rt lib` in the repository's folder crates/record_engine, or set \
          RECORD_ENGINE_LIB_DIR to the folder that has it",
         archive.display()
     );
