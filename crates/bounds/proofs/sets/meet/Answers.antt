@@ -2,11 +2,6 @@
 use Rattle.bounds.proofs.Held.{meet-in-cells, meet_left, meet_right, meet-sought}
 use Rattle.bounds.proofs.sets.meet.Goals as goal
 
--- LEFT bounds-1-result
--- index-1-result c =
---     let start = c.before.before in
---     row_inside_lem start.args.n start.args.sets.now start.args.cells.now start.args.a start.args.b c.if1.true start.requires.1.1 start.requires.0.0 start.requires.0.2
-
 pub returns-then-sets-n-eq0 : goal.returns-then-sets-n-eq0
 returns-then-sets-n-eq0 c =
     meet-in-cells c.args.n c.args.sets.now c.args.cells.now c.args.a c.args.b c.if-sets-n-eq0.true
