@@ -61,14 +61,18 @@ def mapping(root):
 
 def main(words):
     listed = "--list" in words
-    roots = [it for it in words if not it.startswith("--")]
+    roots = [it for it in words if not it.startswith("-")]
+    if [it for it in words if it.startswith("-") and it != "--list"] or len(roots) > 1:
+        print(__doc__)
+        return 2
     root = roots[0] if roots else "."
     declared, renamed = mapping(root)
     for old, new in sorted(renamed.items()):
         clash = new in declared and new not in LEMMAS.split() or sum(it == new for it in renamed.values()) > 1
         if listed or clash:
             print(f"{old} {new}{' falls together' if clash else ''}")
-    if listed:
+    # A second run has nothing to rename, and would take definitions for the lemmas that have their names.
+    if listed or not renamed:
         return 0
     for path in files(root):
         text = read(path)
