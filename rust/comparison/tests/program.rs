@@ -99,7 +99,7 @@ fn a_line_that_cannot_be_written_is_told() {
             error.ends_with(" cannot be written\n"),
             "{program}: {error}"
         );
-        // The language has no exit status: it says nothing.
+        // The exit status says nothing.
         assert!(output.status.success(), "{program}: {}", output.status);
     }
 }
