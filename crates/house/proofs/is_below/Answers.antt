@@ -1,4 +1,4 @@
--- `is_below_lem` meets its contract: the three tests decide the order by grades.
+-- `is_below` meets its contract: the three tests decide the order by grades.
 use borrow.Author.Tests.{lt-leb, le-leb}
 use Rattle.lattice.proofs.Every.{third-decides}
 use Rattle.house.specs.House.{under}

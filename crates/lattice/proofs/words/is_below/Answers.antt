@@ -1,4 +1,4 @@
--- `is_below_lem` meets its contract: in the table it reads the bit, and past the end of the table the byte counts as 0.
+-- `is_below` meets its contract: in the table it reads the bit, and past the end of the table the byte counts as 0.
 use mathlib.Core.Path.{refl}
 use native.Mathlib.Nat.{zero-div}
 use lib.ListN.{get_or-eq_default}

@@ -1,4 +1,4 @@
--- `placing::all_known_lem` meets its contract. The loop's invariant: all rows are known exactly where those from i on are.
+-- `placing::all_known` meets its contract. The loop's invariant: all rows are known exactly where those from i on are.
 use Prim.Native.Nat.{◌-◌, ◌≤◌}
 use Rattle.rows.proofs.Known.{Left}
 use Rattle.rows.proofs.placing.all_known.Given as goal
