@@ -5,7 +5,7 @@ use crate::code::length;
 use crate::{Refusal, foreign};
 
 /// Writes the written record of a record, as [`rewrite`](crate::rewrite) does, if the record
-/// obeys a list of types for features. Takes 36 KiB of stack.
+/// obeys a list of types for features. Takes 28 KiB of stack.
 ///
 /// ```
 /// use record_engine::{FEATURES, GraphFault, Refusal, Side, rewrite_appropriate};
@@ -45,7 +45,7 @@ pub fn rewrite_appropriate(
 }
 
 /// Writes the common part of two records, as [`generalize`](crate::generalize) does, if the
-/// records obey a list of types for features. The common part obeys the list too. Takes 124
+/// records obey a list of types for features. The common part obeys the list too. Takes 116
 /// KiB of stack.
 ///
 /// ```
@@ -85,7 +85,7 @@ pub fn generalize_appropriate(
 }
 
 /// Writes the combination of two records, as [`unify`](crate::unify) does, if the records obey
-/// a list of types for features. The combination obeys the list too. Takes 132 KiB of stack.
+/// a list of types for features. The combination obeys the list too. Takes 136 KiB of stack.
 ///
 /// A difference need not obey the list. Combine a difference with [`unify`](crate::unify):
 ///

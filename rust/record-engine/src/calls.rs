@@ -4,7 +4,7 @@ use crate::code::{length, order_of};
 use crate::{Order, Refusal, foreign};
 
 /// Writes the written record of a record. Two records give equal bytes exactly when they mean
-/// the same. Takes 36 KiB of stack.
+/// the same. Takes 28 KiB of stack.
 ///
 /// ```
 /// let diamond = record_engine::table(&[0x01, 0x03, 0x05, 0x0F]).expect("at most 8 types");
@@ -54,7 +54,7 @@ pub fn order(n: usize, table: &[u8], first: &[u8], second: &[u8]) -> Result<Orde
 /// Writes the common part of two records, their generalization. The common part is the least
 /// graph above both. It has the paths that both records have. A path has the join of its two
 /// types and the smallest range that holds both its ranges. Two paths share in the common part
-/// exactly when they share in both records. Takes 124 KiB of stack.
+/// exactly when they share in both records. Takes 116 KiB of stack.
 ///
 /// ```
 /// let diamond = record_engine::table(&[0x01, 0x03, 0x05, 0x0F]).expect("at most 8 types");
@@ -84,7 +84,7 @@ pub fn generalize(
 /// Writes the combination of two records, their unification. The combination is the greatest
 /// graph below both. Paths that share in one of the records share in the combination, and so do
 /// their continuations by equal features. The paths that share form a class. A class has the
-/// meet of all its types and the overlap of all its ranges. Takes 132 KiB of stack.
+/// meet of all its types and the overlap of all its ranges. Takes 136 KiB of stack.
 ///
 /// ```
 /// use record_engine::Refusal;
@@ -133,7 +133,7 @@ pub fn unify(
 
 /// Writes the difference of a general record and a specific record below it. The combination of
 /// the general record and the difference is the written specific record, byte for byte. No
-/// graph strictly above the difference gives the specific record. Takes 68 KiB of stack.
+/// graph strictly above the difference gives the specific record. Takes 56 KiB of stack.
 ///
 /// ```
 /// let diamond = record_engine::table(&[0x01, 0x03, 0x05, 0x0F]).expect("at most 8 types");

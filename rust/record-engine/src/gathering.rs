@@ -141,7 +141,7 @@ pub fn gathering_begin(n: usize, table: &[u8], gathering: &mut [u8]) -> Result<u
 }
 
 /// Adds a record to a gathering in a lent buffer, and gives the length of the new common part.
-/// Takes 120 KiB of stack.
+/// Takes 112 KiB of stack.
 ///
 /// # Errors
 ///
@@ -155,7 +155,7 @@ pub fn gathering_add(gathering: &mut [u8], record: &[u8]) -> Result<usize, Refus
 }
 
 /// Tells the order of a record, as the first, and of the common part of a gathering in a lent
-/// buffer, as the second. Takes 24 KiB of stack.
+/// buffer, as the second. Takes 28 KiB of stack.
 ///
 /// # Errors
 ///
@@ -167,7 +167,7 @@ pub fn gathering_order(gathering: &[u8], record: &[u8]) -> Result<Order, Refusal
 }
 
 /// Writes the common part of a gathering in a lent buffer, as a written record, and gives its
-/// length. The gathering stays open. Takes 36 KiB of stack.
+/// length. The gathering stays open. Takes 28 KiB of stack.
 ///
 /// # Errors
 ///

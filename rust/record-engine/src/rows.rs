@@ -28,7 +28,7 @@ pub struct Counts {
 
 /// Writes the written record of a planning table, and gives its length. The rows may stand in
 /// any order. Node 0 is the root, and the other nodes may have any numbers. Two planning tables
-/// give equal bytes exactly when they mean the same. Takes 76 KiB of stack.
+/// give equal bytes exactly when they mean the same. Takes 68 KiB of stack.
 ///
 /// ```
 /// use record_engine::{Refusal, Row};
