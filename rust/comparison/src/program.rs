@@ -4,9 +4,15 @@ use std::io::Write;
 use std::path::{Path, PathBuf};
 use std::process::{Command, Stdio};
 
-/// Where `rt ci` and `rt run` put the program.
+/// Where `rt ci` and `rt run` put the program `mapcalc`.
 pub fn path() -> PathBuf {
-    Path::new(env!("CARGO_MANIFEST_DIR")).join("../../crates/mapcalc/out/mapcalc")
+    built("mapcalc")
+}
+
+/// Where `rt ci` and `rt run` put a program.
+pub fn built(program: &str) -> PathBuf {
+    let crates = Path::new(env!("CARGO_MANIFEST_DIR")).join("../../crates");
+    crates.join(program).join("out").join(program)
 }
 
 /// The line that the program prints for an input, without its line end. Panics if the program

@@ -2,7 +2,7 @@
 //! reference, each by a run of the program.
 
 use comparison::cases::cases;
-use comparison::program::{path, run};
+use comparison::program::{built, path, run};
 use reference::mapcalc;
 use reference::random::{self, Ranges, Xorshift};
 use std::collections::BTreeMap;
@@ -87,7 +87,7 @@ fn input_without_end_is_bad() {
 fn a_line_that_cannot_be_written_is_told() {
     for program in ["mapcalc", "house_types"] {
         let full = File::create("/dev/full").expect("a device that takes no byte");
-        let output = Command::new(path().with_file_name(program))
+        let output = Command::new(built(program))
             .stdin(Stdio::null())
             .stdout(full)
             .output()
