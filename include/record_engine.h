@@ -326,7 +326,7 @@ uint64_t record_rewrite(size_t n, const uint8_t *table, size_t table_length,
  * root. Two paths share when they lead to one node. A record s is below a record g when every
  * path of g is a path of s, its type in s is below or equal to its type in g, its range in s
  * lies inside its range in g, and paths that share in g share in s. Answers RECORD_SAME,
- * RECORD_UNDER, RECORD_ABOVE or RECORD_NEITHER, or refuses by 1 to 7. Takes 24 KiB of stack. */
+ * RECORD_UNDER, RECORD_ABOVE or RECORD_NEITHER, or refuses by 1 to 7. Takes 20 KiB of stack. */
 uint64_t record_order(size_t n, const uint8_t *table, size_t table_length,
                       const uint8_t *first, size_t first_length,
                       const uint8_t *second, size_t second_length);
@@ -334,7 +334,7 @@ uint64_t record_order(size_t n, const uint8_t *table, size_t table_length,
 /* Writes the common part of two records, which is the least graph above both. The common part
  * has the paths that both records have. A path has the join of its two types and the smallest
  * range that holds both its ranges. Two paths share in the common part exactly when they share
- * in both records. Answers the length, or refuses by 1 to 7, 11 and 8. Takes 116 KiB of stack. */
+ * in both records. Answers the length, or refuses by 1 to 7, 11 and 8. Takes 108 KiB of stack. */
 uint64_t record_generalize(size_t n, const uint8_t *table, size_t table_length,
                            const uint8_t *first, size_t first_length,
                            const uint8_t *second, size_t second_length,
@@ -353,7 +353,7 @@ uint64_t record_unify(size_t n, const uint8_t *table, size_t table_length,
 /* Writes the difference of a general record, the first, and a specific record below it, the
  * second. The combination of the general record and the difference is the written specific
  * record, byte for byte. No graph strictly above the difference gives the specific record.
- * Answers the length, or refuses by 1 to 7, 12, 13 and 8. Takes 56 KiB of stack. */
+ * Answers the length, or refuses by 1 to 7, 12, 13 and 8. Takes 52 KiB of stack. */
 uint64_t record_difference(size_t n, const uint8_t *table, size_t table_length,
                            const uint8_t *general, size_t general_length,
                            const uint8_t *specific, size_t specific_length,
@@ -369,7 +369,7 @@ uint64_t record_rewrite_appropriate(size_t n, const uint8_t *table, size_t table
 
 /* Does the same as `record_generalize`, for two records that obey a list of types for features.
  * The common part obeys the list too. Answers the length, or refuses by 1 to 3, by 17, by the
- * first record's 4 to 7 and 18, by the second record's, then by 11 and 8. Takes 116 KiB of
+ * first record's 4 to 7 and 18, by the second record's, then by 11 and 8. Takes 108 KiB of
  * stack. */
 uint64_t record_generalize_appropriate(size_t n, const uint8_t *table, size_t table_length,
                                        const uint8_t *list, size_t list_length,
@@ -391,7 +391,7 @@ uint64_t record_unify_appropriate(size_t n, const uint8_t *table, size_t table_l
  * second output. A reason is one byte: RECORD_REASON_BARE, RECORD_REASON_GROUPS or
  * RECORD_REASON_WANTED. The reasons stand in the order of the links in the written difference:
  * node by node, and for each node by feature. The bytes behind the last reason are unchanged.
- * Answers the record's length, or refuses by 1 to 7, 12, 13, 8 and 22. Takes 56 KiB of stack. */
+ * Answers the record's length, or refuses by 1 to 7, 12, 13, 8 and 22. Takes 52 KiB of stack. */
 uint64_t record_difference_explained(size_t n, const uint8_t *table, size_t table_length,
                                      const uint8_t *general, size_t general_length,
                                      const uint8_t *specific, size_t specific_length,
@@ -401,7 +401,7 @@ uint64_t record_difference_explained(size_t n, const uint8_t *table, size_t tabl
 /* Writes the difference as `record_difference` does, but orders the links by a reading order,
  * which is the list. Whichever reading order is given, the difference restores the specific
  * record, and no graph strictly above the difference does. Answers the length, or refuses by 1
- * to 3, by 19, by 4 to 7, then by 12, 13 and 8. Takes 56 KiB of stack. */
+ * to 3, by 19, by 4 to 7, then by 12, 13 and 8. Takes 52 KiB of stack. */
 uint64_t record_difference_by(size_t n, const uint8_t *table, size_t table_length,
                               const uint8_t *list, size_t list_length,
                               const uint8_t *general, size_t general_length,
@@ -410,7 +410,7 @@ uint64_t record_difference_by(size_t n, const uint8_t *table, size_t table_lengt
 
 /* Writes the difference as `record_difference_by` does, and its reasons as
  * `record_difference_explained` does. Answers the record's length, or refuses by 1 to 3,
- * by 19, by 4 to 7, then by 12, 13, 8 and 22. Takes 56 KiB of stack. */
+ * by 19, by 4 to 7, then by 12, 13, 8 and 22. Takes 52 KiB of stack. */
 uint64_t record_difference_explained_by(size_t n, const uint8_t *table, size_t table_length,
                                         const uint8_t *list, size_t list_length,
                                         const uint8_t *general, size_t general_length,
@@ -436,7 +436,7 @@ typedef struct { uint8_t parent, feature, target; } record_row;
 /* Writes the written record of a planning table. Two planning tables give equal bytes exactly
  * when they mean the same, whatever the order of their rows. Answers the length, or refuses by 1
  * to 3, by 4, by 14, by 15, by 5, 6 and 7, then by 8; the planning table counts as the first
- * record. Takes 68 KiB of stack. */
+ * record. Takes 60 KiB of stack. */
 uint64_t record_import(size_t n, const uint8_t *table, size_t table_length,
                        const record_row *rows, size_t row_count,
                        const uint8_t *nodes, size_t nodes_length,
@@ -447,7 +447,7 @@ uint64_t record_import(size_t n, const uint8_t *table, size_t table_length,
  * filled are unchanged. Importing what was exported gives the written record. Exporting what was
  * imported gives the rows sorted, with the numbers of the written record. Answers the counts of
  * nodes and rows, or refuses by 1 to 7, then by 8 where the rows are fewer than the links or the
- * node bytes fewer than three for each node. The record counts as the first. Takes 48 KiB of
+ * node bytes fewer than three for each node. The record counts as the first. Takes 36 KiB of
  * stack. */
 uint64_t record_export(size_t n, const uint8_t *table, size_t table_length,
                        const uint8_t *record, size_t record_length,
@@ -462,7 +462,7 @@ uint64_t record_gathering_begin(size_t n, const uint8_t *table, size_t table_len
 
 /* Adds a record to a gathering. Answers the length of the new common part, or refuses by 4 to 7
  * of the record, which counts as the first, then by 11; by nothing else if the bytes hold a
- * gathering. A refused addition changes no byte. Takes 112 KiB of stack. */
+ * gathering. A refused addition changes no byte. Takes 108 KiB of stack. */
 uint64_t record_gathering_add(uint8_t *gathering, size_t gathering_length,
                               const uint8_t *record, size_t record_length);
 
@@ -482,7 +482,7 @@ uint64_t record_gathering_finish(const uint8_t *gathering, size_t gathering_leng
  * first, where the bytes hold no store, by 4 to 7 of the record, which counts as the second, by
  * 20 for the version, then by the first of 11, 13 and 21 on the way of all programs, the new one
  * included. If the version is above all present ones, the call adds one step to the way that it
- * went to find the programs, and does not go the way again. Takes 256 KiB of stack. */
+ * went to find the programs, and does not go the way again. Takes 252 KiB of stack. */
 uint64_t record_store_put(size_t n, const uint8_t *table, size_t table_length,
                           uint8_t *store, size_t store_length,
                           size_t version,
@@ -490,7 +490,7 @@ uint64_t record_store_put(size_t n, const uint8_t *table, size_t table_length,
 
 /* Writes the written record of what was put under a version. Answers the record's length, or
  * refuses by 1 to 3, by 4 of the store, as the first, where the bytes hold no store, by 20 for
- * the version, then by 8. Takes 244 KiB of stack. */
+ * the version, then by 8. Takes 240 KiB of stack. */
 uint64_t record_store_read(size_t n, const uint8_t *table, size_t table_length,
                            const uint8_t *store, size_t store_length,
                            size_t version,
@@ -499,7 +499,7 @@ uint64_t record_store_read(size_t n, const uint8_t *table, size_t table_length,
 /* Removes a version from a store. Answers how many bytes the store uses then. The bytes behind
  * them are unchanged. Refuses by 1 to 3, by 4 of the store, as the first, where the bytes hold no
  * store, by 20 for the version, then by the first of 11, 13 and 21 on the way of the other
- * programs. Takes 244 KiB of stack. */
+ * programs. Takes 240 KiB of stack. */
 uint64_t record_store_drop(size_t n, const uint8_t *table, size_t table_length,
                            uint8_t *store, size_t store_length,
                            size_t version);

@@ -7,10 +7,9 @@ use native.Mathlib.Omega.{arith}
 use lib.ListN.{length, get_or}
 use Rattle.graphs.proofs.Search.{same_test, true-both}
 use Rattle.acceptance.specs.declared.TableFault.TheVariants.{Size, Order, Bounds}
-use Rattle.acceptance.specs.declared.Opened.{Opened}
-use Rattle.acceptance.specs.declared.Opened.TheVariants.{Accepted, Refused}
+use Rattle.std.specs.Prelude.{Ok, Err}
 use Rattle.lattice.specs.Table.{every, below, found, sized, ordered, bounded, accepted, meet, join, side_bound}
-use Rattle.acceptance.specs.Reply.{opened}
+use Rattle.acceptance.specs.Reply.{opened, TableAnswer}
 use Rattle.lattice.specs.Words.{related, Words, bit, turned, word_bound, all_found, row_ordered, OrderWords, Sided, Lower}
 use Rattle.lattice.proofs.Every.{and_left, and_right, every-at, every-all, true-not-false}
 use Rattle.lattice.proofs.OrderLaws.{Ordered, facts-ordered, rows-facts, rows-ordered, row-bit, side, sided, turned-words}
@@ -21,7 +20,7 @@ use Rattle.lattice.proofs.Sizes.{size-facts}
 
 -- The table is refused by its size or by its order.
 module _ (n : ℕ) (t : List ℕ) where
-  pub answer-size : sized n t ≡ false → Refused Size ≡ opened n t
+  pub answer-size : sized n t ≡ false → Err Size ≡ opened n t
   unfolding opened
   answer-size h = rw h
 
@@ -29,7 +28,7 @@ module _ (n : ℕ) (t : List ℕ) where
   unordered down s words h = sym (rows-ordered n t down (size-facts n t s).1 words) ∙ h
 
   pub answer-order : (down : List ℕ) → sized n t ≡ true → Words n t false down → every n (row_ordered n down) ≡ false
-      → Refused Order ≡ opened n t
+      → Err Order ≡ opened n t
   unfolding opened
   answer-order down s words h = rw (s, unordered down s words h)
 
@@ -90,25 +89,25 @@ module _ (n : ℕ) (t down : List ℕ) (passed : OrderWords n t down) where
         both true a b = and_right (found (meet n t a b)) (found (join n t a b))
         both false a b = and_left (found (meet n t a b)) (found (join n t a b))
 
-    pub answer-found : (b : Bool) → all_found n (word_bound n ws) ≡ b → cond b Accepted (Refused Bounds) ≡ opened n t
+    pub answer-found : (b : Bool) → all_found n (word_bound n ws) ≡ b → cond b (Ok tt) (Err Bounds) ≡ opened n t
     unfolding opened
     answer-found b e = rw (passed.size, facts-ordered n t table-ordered, ← side-bounded, e)
 
 -- The answer says whether the table is accepted.
 module _ (n : ℕ) (t : List ℕ) where
-  pub opened-accepted : (r : Opened) → r ≡ opened n t → r ≡ Accepted → accepted n t ≡ true
+  pub opened-accepted : (r : TableAnswer) → r ≡ opened n t → r ≡ Ok tt → accepted n t ≡ true
   unfolding opened accepted
   opened-accepted r e f = go (sized n t) (ordered n t) (bounded n t) (sym f ∙ e) where
-    go : (s o b : Bool) → Accepted ≡ cond s (cond o (cond b Accepted (Refused Bounds)) (Refused Order)) (Refused Size) → s && o && b ≡ true
+    go : (s o b : Bool) → Ok (tt {0}) ≡ cond s (cond o (cond b (Ok tt) (Err Bounds)) (Err Order)) (Err Size) → s && o && b ≡ true
     go true true true h = refl
     go true true false h = let z : ◌≡◌ {A = ℕ} 0 1 = cc in absurd (omega arith)
     go true false b h = let z : ◌≡◌ {A = ℕ} 0 1 = cc in absurd (omega arith)
     go false o b h = let z : ◌≡◌ {A = ℕ} 0 1 = cc in absurd (omega arith)
 
-  pub accepted-opened : accepted n t ≡ true → opened n t ≡ Accepted
+  pub accepted-opened : accepted n t ≡ true → opened n t ≡ Ok tt
   unfolding opened accepted
   accepted-opened ok = go (sized n t) (ordered n t) (bounded n t) ok where
-    go : (s o b : Bool) → s && o && b ≡ true → cond s (cond o (cond b Accepted (Refused Bounds)) (Refused Order)) (Refused Size) ≡ Accepted
+    go : (s o b : Bool) → s && o && b ≡ true → cond s (cond o (cond b (Ok (tt {0})) (Err Bounds)) (Err Order)) (Err Size) ≡ Ok tt
     go true true true h = refl
     go true true false h = absurd (true-not-false false h refl)
     go true false b h = absurd (true-not-false false h refl)

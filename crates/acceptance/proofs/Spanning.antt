@@ -11,6 +11,7 @@ use native.Mathlib.Omega.{arith}
 use lib.ListN.{get_or}
 use lib.Bits.{bit_and, bit_or, and_comm, and_le_l}
 use lib.Dec.{leb, eqb}
+use Rattle.std.specs.Prelude.{Option as Answer, None, Some, is_some}
 use lib.Pow.{pow_pos}
 use borrow.Author.Count.{below_more}
 use borrow.Author.Tests.{eq-eqb, ne_eqb, eqb-true, le-leb, leb-true, not-true}
@@ -99,15 +100,13 @@ module _ {n : ℕ} {ws : List ℕ} {i : ℕ} (li : i < n) where
   pub span-begin : Spanning n ws i (strictly ws i) 0
   span-begin = record { left-part = λ j e. e; spanned = λ x e. inl e; taking = λ low. take-begin low li }
 
-  pub span-end : {left word : ℕ} → left ≡ 0 → Spanning n ws i left word → CoversOf n ws i true word
-  span-end {left} e s =
-      record {
-        yes-stands = λ h x f.
-            ⊎_elim (λ (g : bit left x ≡ true). absurd (true-not-false (bit left x) g (ap (λ (w : ℕ). bit w x) e ∙ no-bit x))) (λ r. r)
-            (s.spanned x f);
-        no-stands = λ h. absurd (true-not-false true refl h);
-        covers = λ low. take-end low li e (s.taking low);
-      }
+  pub span-end : {left word : ℕ} → left ≡ 0 → Spanning n ws i left word → CoversOf n ws i (Some word)
+  span-end {left} e s = (
+    λ x f.
+        ⊎_elim (λ (g : bit left x ≡ true). absurd (true-not-false (bit left x) g (ap (λ (w : ℕ). bit w x) e ∙ no-bit x))) (λ r. r)
+        (s.spanned x f),
+    λ low. take-end low li e (s.taking low),
+  )
 
   module _ {left word : ℕ} (s : Spanning n ws i left word) (c : ℕ) (small : c < 64) (stands : bit left c ≡ true) where
     taken : Owned n ws → c < n
@@ -134,17 +133,24 @@ module _ {n : ℕ} {ws : List ℕ} {i : ℕ} (li : i < n) where
         go x false e (inr r) = inr r
 
     -- a type below c is not strictly below i
-    pub span-fails : n ≤ 64 → Owned n ws → part_of (get_or ws c 0) (strictly ws i) ≡ false → CoversOf n ws i false word
-    span-fails few owned e =
-        record {
-          yes-stands = λ h. absurd (true-not-false false h refl);
-          no-stands = λ h. sym (pairs-lower ws i) ∙ every-fails _ 64 c small (rw (s.left-part c stands, e));
-          covers = λ low.
-              let under = strictly-under ws i c (s.left-part c stands) in
-              absurd
-              (true-not-false (part_of (get_or ws c 0) (strictly ws i))
-              (eq-eqb _ _ (below-strictly n ws few low i c li (taken owned) under.below under.apart)) e);
-        }
+    pub span-fails : n ≤ 64 → Owned n ws → part_of (get_or ws c 0) (strictly ws i) ≡ false → CoversOf n ws i None
+    span-fails few owned e = (
+      sym (pairs-lower ws i) ∙ every-fails _ 64 c small (rw (s.left-part c stands, e)),
+      λ low.
+          let under = strictly-under ws i c (s.left-part c stands) in
+          true-not-false (part_of (get_or ws c 0) (strictly ws i))
+          (eq-eqb _ _ (below-strictly n ws few low i c li (taken owned) under.below under.apart)) e,
+    )
+
+-- What a test of the answer for type i tells.
+module _ (n : ℕ) (ws : List ℕ) (i : ℕ) where
+  pub covers-missing : (o : Answer ℕ) → CoversOf n ws i o → is_some o ≡ false → pairs_ordered ws i ≡ false
+  covers-missing None h e = h.0
+  covers-missing (Some w) h e = absurd (true-not-false true refl e)
+
+  pub covers-there : (o : Answer ℕ) → CoversOf n ws i o → is_some o ≡ true → Spanned ws i
+  covers-there None h e = absurd (true-not-false false e refl)
+  covers-there (Some w) h e = h.0
 
 -- Where every row is spanned, all pairs are ordered.
 module _ {n : ℕ} {ws : List ℕ} (owned : Owned n ws) (spans : (i : ℕ) → i < n → Spanned ws i) where
@@ -281,24 +287,24 @@ module _ (n : ℕ) (ws : List ℕ) where
         no-stands = λ h. absurd (true-not-false true refl h);
       }
 
-  module _ {k w : ℕ} {all : Bool} (j : Judging k all) (o : CoversOf n ws k true w) where
+  module _ {k w : ℕ} {all : Bool} (j : Judging k all) (o : CoversOf n ws k (Some w)) where
     -- the bounds of the types that type k covers are sought, or one is missing already
     pub judge-next : k < n → n ≤ 64 → all ≡ true → {answer : Bool} → (Sided n ws → Inside n w → BoundsWithin n ws w answer) → Judging (k + 1) answer
     judge-next l few h {answer} told =
         record {
-          spans = below_more (Spanned ws) k j.spans (o.yes-stands refl);
+          spans = below_more (Spanned ws) k j.spans o.0;
           yes-stands = λ e low.
-              covers_more n ws k w (j.yes-stands h low) (o.covers low) (subst (BoundsWithin n ws w) e (at low));
+              covers_more n ws k w (j.yes-stands h low) (o.1 low) (subst (BoundsWithin n ws w) e (at low));
           no-stands = λ e low. (at low).no-stands e;
         }
       where
         at : Lower n ws → BoundsWithin n ws w answer
-        at low = told low.sided (covered-inside n ws k w l low.sided (o.covers low))
+        at low = told low.sided (covered-inside n ws k w l low.sided (o.1 low))
 
     pub judge-kept : all ≡ false → Judging (k + 1) all
     judge-kept h =
         record {
-          spans = below_more (Spanned ws) k j.spans (o.yes-stands refl);
+          spans = below_more (Spanned ws) k j.spans o.0;
           yes-stands = λ e. absurd (true-not-false all e h);
           no-stands = j.no-stands;
         }

@@ -10,7 +10,7 @@ fn is_bounded_with(down: &[u64; 64], a: usize, word: u64) -> bool
     let mut left = word;
     while left != 0 {
         let b = lattice::words::end_bit(left, true);
-        if 64 <= lattice::search::find_word(down, down[a] & down[b], false) {
+        if lattice::search::find_word(down, down[a] & down[b], false).is_none() {
             return false;
         }
         left = lattice::words::without_lowest(left);
@@ -38,13 +38,13 @@ pub fn are_bounded(n: usize, down: &[u64; 64]) -> bool
     requires { (n ≤ 64) × Lower n down.now }
     ensures { result ≡ all_found n (word_bound n down.now) }
 {
-    let mut i = 0;
-    while i < n {
-        let found = super::order::covers_of(n, down, i);
-        if !are_bounded_within(down, found.word) {
+    for i in 0..n {
+        let Some(word) = super::order::covers_of(n, down, i) else {
+            return false;
+        };
+        if !are_bounded_within(down, word) {
             return false;
         }
-        i += 1;
     }
     true
 }

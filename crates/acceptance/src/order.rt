@@ -44,29 +44,20 @@ pub fn are_rows_set(n: usize, down: &[u64; 64]) -> bool
     if 1 < all >> (n - 1) {
         return false;
     }
-    let mut i = 0;
-    while i < n {
-        if !is_row_inside(all, down[i], i) {
+    for (i, row) in down[..n].iter().enumerate() {
+        if !is_row_inside(all, *row, i) {
             return false;
         }
-        i += 1;
     }
     true
 }
 
-// `word`: the types that a type covers. `ordered`: whether all types below these are strictly below that type.
-#[derive(Clone, Copy)]
-pub struct Covers {
-    pub ordered: bool,
-    pub word: u64,
-}
-
-// The types that type i covers. Of the types strictly below i the loop takes the highest numbered, puts aside all types below that one, and
+// The types that type i covers, or none if a pair of i is not ordered. Of the types strictly below i the loop takes the highest numbered, puts aside all types below that one, and
 // so on. It drops a taken type that lies below a later one, as in a table that is not numbered along its order. It ends at a taken type
-// with a type below it that is not strictly below i: then a pair of i is not ordered. Where no row ends so, all pairs are ordered.
-pub fn covers_of(n: usize, down: &[u64; 64], i: usize) -> Covers
+// with a type below it that is not strictly below i. Where no row ends so, all pairs are ordered.
+pub fn covers_of(n: usize, down: &[u64; 64], i: usize) -> Option<u64>
     requires { (i < n) × (n ≤ 64) × Owned n down.now }
-    ensures { CoversOf n down.now i result.ordered result.word }
+    ensures { CoversOf n down.now i result }
 {
     let row = down[i];
     let lower = lattice::words::cleared(row, i);
@@ -76,18 +67,12 @@ pub fn covers_of(n: usize, down: &[u64; 64], i: usize) -> Covers
         let c = lattice::words::end_bit(left, false);
         let below = down[c];
         if below & lower != below {
-            return Covers {
-                ordered: false,
-                word,
-            };
+            return None;
         }
         word = lattice::words::without(word, below) | (1u64 << c);
         left = lattice::words::without(left, below);
     }
-    Covers {
-        ordered: true,
-        word,
-    }
+    Some(word)
 }
 
 // Whether the rows pass all the tests of refusal 2.
@@ -98,13 +83,10 @@ pub fn is_ordered(n: usize, down: &[u64; 64]) -> bool
     if !are_rows_set(n, down) {
         return false;
     }
-    let mut i = 0;
-    while i < n {
-        let found = covers_of(n, down, i);
-        if !found.ordered {
+    for i in 0..n {
+        if covers_of(n, down, i).is_none() {
             return false;
         }
-        i += 1;
     }
     true
 }

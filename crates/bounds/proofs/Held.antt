@@ -10,14 +10,16 @@ use lib.ListN.{length, get_or, set, length-set}
 use lib.Seq.{get_or-set_same, get_or-set_other}
 use lib.Bits.{bit_and, bit_or, or_add_and, and_le_r}
 use lib.Dec.{eqb}
+use Rattle.std.specs.Prelude.{Option as Answer, None, Some, unwrap_or}
 use borrow.Author.Tests.{eq-eqb, ne_eqb, eqb-true}
 use Rattle.graphs.proofs.Search.{true-both, either_true}
-use Rattle.lattice.specs.Table.{every, cell}
+use Rattle.lattice.specs.Table.{every, answer, cell}
 use Rattle.lattice.specs.Words.{word, bit, without, turned, holder}
-use Rattle.bounds.specs.Primes.{word_irreducible, word_splits, word_prime, Finds}
+use Rattle.bounds.specs.Primes.{word_irreducible, word_splits, word_prime}
 use Rattle.bounds.specs.Sets.{set_in, word_in, as_sets, cell_in, meet_in, join_in, Apart, Among, MeetsHeld, JoinsHeld, Above, SoughtBy, Sets}
 use Rattle.lattice.proofs.Every.{and_left, and_right, implies-from, every-fails, true-not-false, below_suc, last-nothing, last-only}
 use Rattle.lattice.proofs.Bits.{no-bit, and-bit, or-bit, part-from, cleared-bit}
+use Rattle.lattice.proofs.Rows.{answer-cell}
 use Rattle.lattice.proofs.Seeking.{without-inside}
 
 module _ {n : ℕ} {sets : List ℕ} {set left : ℕ} (a : Among n sets set left) where
@@ -34,20 +36,20 @@ module _ {n : ℕ} {sets : List ℕ} {set left : ℕ} (a : Among n sets set left
       }
 
   -- c has the set, and no other type has
-  pub among-found : (c : ℕ) → c < 64 → bit left c ≡ true → set_in sets c ≡ set → c ≡ cell (holder n sets set)
+  pub among-found : (c : ℕ) → c < 64 → bit left c ≡ true → set_in sets c ≡ set → Some c ≡ answer (holder n sets set)
   unfolding holder
   among-found c l stands e =
       sym
-      (ap cell
+      (ap answer
       (last-only (λ k. eqb (get_or sets k 0) set) n c (a.inside c l stands) (eq-eqb (get_or sets c 0) set e) λ k r f.
       a.apart k c r (a.inside c l stands) (eqb-true (get_or sets k 0) set f ∙ sym e)))
 
   -- no type is left
-  pub among_none : left ≡ 0 → 64 ≡ cell (holder n sets set)
+  pub among_none : left ≡ 0 → None ≡ answer (holder n sets set)
   unfolding holder
   among_none e =
       sym
-      (ap cell
+      (ap answer
       (last-nothing (λ k. eqb (get_or sets k 0) set) n λ k l.
       ne_eqb (get_or sets k 0) set λ h. true-not-false (bit left k) (a.kept k l h) (ap (λ (w : ℕ). bit w k) e ∙ no-bit k)))
 
@@ -121,13 +123,10 @@ module _ (n : ℕ) (ws : List ℕ) (j : ℕ) where
       implies-from (word_irreducible n ws j) (word_splits n ws (turned n ws j)) λ _. ap (word_splits n ws) (sym e) ∙ f
 
   -- an irreducible type that is not prime ends the search
-  pub finds-fault : {types : ℕ} {above : List ℕ} (up : ℕ) → j < n → word_irreducible n ws j ≡ true → up ≡ turned n ws j →
-      word_splits n ws up ≡ false → Finds n ws (record { primes = false; types = types; above = above })
+  pub finds-fault : (up : ℕ) → j < n → word_irreducible n ws j ≡ true → up ≡ turned n ws j →
+      word_splits n ws up ≡ false → every n (word_prime n ws) ≡ false
   unfolding word_prime
-  finds-fault up l i e f =
-      let none : false ≡ every n (word_prime n ws) =
-      sym (every-fails (word_prime n ws) n j l (rw (i, ← e, f))) in
-      record { primes = none; types = λ q. absurd (true-not-false false q refl); above = λ q. absurd (true-not-false false q refl) }
+  finds-fault up l i e f = every-fails (word_prime n ws) n j l (rw (i, ← e, f))
 
 -- the sets of one type more
 module _ {up : Bool} {n : ℕ} {ws sets : List ℕ} {k : ℕ} (s : Sets up n ws sets k) (long : length sets ≡ 128) (l : k < 64) where
@@ -227,10 +226,10 @@ module _ (n : ℕ) (sets : List ℕ) (cells : List (List ℕ)) (a b : ℕ) where
                 (part-from (set_in sets k) (set_in sets b) λ j f. and_right (bit (set_in sets a) j) (bit (set_in sets b) j) (both j f)));
           }
 
-      pub meet-sought : (r : ℕ) → n ≤ 64 →
+      pub meet-sought : (r : Answer ℕ) → n ≤ 64 →
           ((n : ℕ) → n ≤ 64 → Among n sets (bit_and (set_in sets a) (set_in sets b)) (bit_and (word_in sets a) (word_in sets b)) →
-          r ≡ cell (holder n sets (bit_and (set_in sets a) (set_in sets b)))) → r ≡ meet_in n sets cells a b
-      meet-sought r few answer = in-meets r (answer n few meet-among)
+          r ≡ answer (holder n sets (bit_and (set_in sets a) (set_in sets b)))) → unwrap_or r 64 ≡ meet_in n sets cells a b
+      meet-sought r few answers = in-meets _ (answer-cell _ r (answers n few meet-among))
 
     module _ (ready : as_sets n sets ≡ true → JoinsHeld n sets) where
       joins-held : JoinsHeld n sets
@@ -254,7 +253,7 @@ module _ (n : ℕ) (sets : List ℕ) (cells : List (List ℕ)) (a b : ℕ) where
             kept = λ k l e. above.kept k λ j lj f. joins-held.upper k j l lj (ap (λ (w : ℕ). bit w j) e ∙ f);
           }
 
-      pub join-sought : (part r : ℕ) → n ≤ 64 → Above sets (bit_or (set_in sets a) (set_in sets b)) part →
+      pub join-sought : (part : ℕ) (r : Answer ℕ) → n ≤ 64 → Above sets (bit_or (set_in sets a) (set_in sets b)) part →
           ((n : ℕ) → n ≤ 64 → Among n sets (bit_or (set_in sets a) (set_in sets b)) part →
-          r ≡ cell (holder n sets (bit_or (set_in sets a) (set_in sets b)))) → r ≡ join_in n sets cells a b
-      join-sought part r few above answer = in-joins r (answer n few (join-among part above))
+          r ≡ answer (holder n sets (bit_or (set_in sets a) (set_in sets b)))) → unwrap_or r 64 ≡ join_in n sets cells a b
+      join-sought part r few above answers = in-joins _ (answer-cell _ r (answers n few (join-among part above)))

@@ -7,17 +7,15 @@ use lib.ListN.{length}
 use native.Mathlib.Omega.{arith}
 use Rattle.acceptance.specs.declared.TableFault.{TableFault}
 use Rattle.acceptance.specs.declared.TableFault.TheVariants.{Bounds}
-use Rattle.acceptance.specs.declared.Opened.{Opened}
-use Rattle.acceptance.specs.declared.Opened.TheVariants.{Accepted, Refused}
+use Rattle.std.specs.Prelude.{Ok, Err}
 use Rattle.lattice.specs.Table.{every, sized, ordered, accepted, side_bound, bound_row, overwrite, filled}
-use Rattle.acceptance.specs.Reply.{opened}
+use Rattle.acceptance.specs.Reply.{opened, TableAnswer}
 use Rattle.lattice.specs.Words.{Words, word_bound, all_found, OrderWords}
 use Rattle.lattice.proofs.Every.{true-not-false}
 use Rattle.lattice.proofs.Sizes.{size-facts}
 use Rattle.lattice.proofs.OrderLaws.{facts-ordered, rows-ordered}
 use Rattle.lattice.proofs.Rows.{overwrite-same, length-overwrite}
 use Rattle.acceptance.proofs.Acceptance.{accepted-opened, opened-accepted, table-ordered, side-bound, answer-found}
-use Rattle.bounds.specs.declared.Form.{Form}
 use Rattle.bounds.specs.declared.Form.TheVariants as forms
 use Rattle.bounds.specs.Primes.{word_prime}
 use Rattle.bounds.specs.Sets.{distributive, set_in, Holding, Sets}
@@ -25,27 +23,17 @@ use Rattle.bounds.specs.Opening.{SetsHeld, CellsNeeded, Chooses, Fills, Opening,
 use Rattle.bounds.proofs.Distributive.{primes-distributive}
 use Rattle.bounds.proofs.Types.{holding-sets, holding-cells}
 
--- the fault of a choice that refuses
-fault-of : TableFault → Form → TableFault
-fault-of other (forms.Refused fault) = fault
-fault-of other forms.AsSets = other
-fault-of other forms.AsCells = other
-
-same-fault : {a b : TableFault} → forms.Refused a ≡ forms.Refused b → a ≡ b
-unfolding fault-of
-same-fault {a} q = ap (fault-of a) q
-
 -- one answer of the choice rules the others out
 module _ (up : Bool) (n : ℕ) (t sets : List ℕ) where
-  pub chooses-refused : (fault : TableFault) → Refused fault ≡ opened n t → Chooses up n t (forms.Refused fault) sets
+  pub chooses-refused : (fault : TableFault) → Err fault ≡ opened n t → Chooses up n t (Err fault) sets
   chooses-refused fault e =
       record {
-        refused = λ f q. ap Refused (sym (same-fault q)) ∙ e;
+        refused = λ f q. cc;
         as-sets = λ q. let z : ◌≡◌ {A = ℕ} 0 1 = cc in absurd (omega arith);
         as-cells = λ q. let z : ◌≡◌ {A = ℕ} 0 1 = cc in absurd (omega arith);
       }
 
-  pub chooses-sets : SetsHeld up n t sets → Chooses up n t forms.AsSets sets
+  pub chooses-sets : SetsHeld up n t sets → Chooses up n t (Ok forms.Sets) sets
   chooses-sets h =
       record {
         refused = λ f q. let z : ◌≡◌ {A = ℕ} 0 1 = cc in absurd (omega arith);
@@ -53,7 +41,7 @@ module _ (up : Bool) (n : ℕ) (t sets : List ℕ) where
         as-cells = λ q. let z : ◌≡◌ {A = ℕ} 0 1 = cc in absurd (omega arith);
       }
 
-  pub chooses-cells : CellsNeeded n t sets → Chooses up n t forms.AsCells sets
+  pub chooses-cells : CellsNeeded n t sets → Chooses up n t (Ok forms.Cells) sets
   chooses-cells h =
       record {
         refused = λ f q. let z : ◌≡◌ {A = ℕ} 0 1 = cc in absurd (omega arith);
@@ -82,19 +70,19 @@ module _ (up : Bool) (n : ℕ) (t sets : List ℕ) where
 
 -- the three ways through opening
 module _ (up : Bool) (n : ℕ) (t sets : List ℕ) (cells₀ : List (List ℕ)) where
-  pub opening-refused : (fault : TableFault) → Refused fault ≡ opened n t → Opening up n t (side_bound n t up) (Refused fault) sets cells₀ cells₀
+  pub opening-refused : (fault : TableFault) → Err fault ≡ opened n t → Opening up n t (side_bound n t up) (Err fault) sets cells₀ cells₀
   opening-refused fault e =
       record {
         answers = e;
         long = refl;
         holds = λ ok.
-            let q : Refused fault ≡ Accepted = e ∙ accepted-opened n t ok in let z : ◌≡◌ {A = ℕ} 0 1 = cc in absurd (omega arith);
+            let q : Err fault ≡ Ok tt = e ∙ accepted-opened n t ok in let z : ◌≡◌ {A = ℕ} 0 1 = cc in absurd (omega arith);
       }
 
-  pub opening-sets : SetsHeld up n t sets → Opening up n t (side_bound n t up) Accepted sets cells₀ cells₀
+  pub opening-sets : SetsHeld up n t sets → Opening up n t (side_bound n t up) (Ok tt) sets cells₀ cells₀
   opening-sets h = record { answers = sym (accepted-opened n t h.ok); long = refl; holds = λ ok. h.holding cells₀ }
 
-  pub opening-cells : (cells : List (List ℕ)) (answer : Opened) → CellsNeeded n t sets → length cells₀ ≡ 64 → Fills up n t answer cells₀ cells →
+  pub opening-cells : (cells : List (List ℕ)) (answer : TableAnswer) → CellsNeeded n t sets → length cells₀ ≡ 64 → Fills up n t answer cells₀ cells →
       Opening up n t (side_bound n t up) answer sets cells₀ cells
   opening-cells cells answer needed long fills =
       record {
@@ -119,7 +107,7 @@ module _ (n : ℕ) (t down : List ℕ) (passed : OrderWords n t down) (up : Bool
       (f ∙ overwrite-same n _ _ (side-bound n t down passed up ws made) cells₀)
 
   -- the answer and the cells
-  pub fills-found : (b side : Bool) → side ≡ up → (answer : Opened) (cells₀ cells : List (List ℕ)) → answer ≡ cond b Accepted (Refused Bounds) →
+  pub fills-found : (b side : Bool) → side ≡ up → (answer : TableAnswer) (cells₀ cells : List (List ℕ)) → answer ≡ cond b (Ok tt) (Err Bounds) →
       b ≡ all_found n (word_bound n ws) → cells ≡ overwrite n (bound_row n (word_bound n ws)) cells₀ → Fills side n t answer cells₀ cells
   fills-found b side e answer cells₀ cells q found f =
       record {
@@ -140,7 +128,7 @@ module _ (n : ℕ) (t down : List ℕ) (passed : OrderWords n t down) (up : Bool
       }
 
   -- the test of bounds refuses a table whose types are held as sets
-  pub bounds-refused : false ≡ all_found n (word_bound n down) → Refused Bounds ≡ opened n t
+  pub bounds-refused : false ≡ all_found n (word_bound n down) → Err Bounds ≡ opened n t
   bounds-refused found = answer-found n t down passed false down passed.words false (sym found)
 
   -- the test of bounds accepts it

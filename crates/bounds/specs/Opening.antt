@@ -1,18 +1,16 @@
 -- This file says what opening a table for meets or for joins ensures, and what meets and joins may rely on afterwards. Paper 12: "Opening such
 -- a table then fills neither; other tables use the old form."
-use Rattle.std.specs.Prelude.{ℕ, ◌-◌, ◌≡◌, Bool, true, false, List, length}
+use Rattle.std.specs.Prelude.{ℕ, ◌-◌, ◌≡◌, Bool, true, false, List, length, Result, Ok, Err}
 use Rattle.std.proofs.Math.Option.{Option}
 use Rattle.acceptance.specs.declared.TableFault.{TableFault}
-use Rattle.acceptance.specs.declared.Opened.{Opened}
-use Rattle.acceptance.specs.declared.Opened.TheVariants as answers
 use Rattle.lattice.specs.Table.{sized, ordered, accepted, side_bound, filled}
-use Rattle.acceptance.specs.Reply.{opened}
+use Rattle.acceptance.specs.Reply.{opened, TableAnswer}
 use Rattle.bounds.specs.declared.Form.{Form}
-use Rattle.bounds.specs.declared.Form.TheVariants.{Refused, AsSets, AsCells}
+use Rattle.bounds.specs.declared.Form.TheVariants.{Sets, Cells}
 use Rattle.bounds.specs.Sets.{distributive, set_in, Holding}
 
 -- The answer is that of acceptance; if the table is accepted, the lent words and cells hold the bounds of one side.
-pub record Opening (up : Bool) (n : ℕ) (t : List ℕ) (bound : ℕ → ℕ → Option ℕ) (answer : Opened) (sets : List ℕ) (cells₀ cells : List (List ℕ)) :
+pub record Opening (up : Bool) (n : ℕ) (t : List ℕ) (bound : ℕ → ℕ → Option ℕ) (answer : TableAnswer) (sets : List ℕ) (cells₀ cells : List (List ℕ)) :
     Type 0 where
   pub answers : answer ≡ opened n t
   pub long : length cells ≡ length cells₀
@@ -33,13 +31,13 @@ pub record CellsNeeded (n : ℕ) (t sets : List ℕ) : Type 0 where
   pub no-set : set_in sets (n - 1) ≡ 0
 
 -- The table is refused, or its types are held as sets, or its cells are needed.
-pub record Chooses (up : Bool) (n : ℕ) (t : List ℕ) (answer : Form) (sets : List ℕ) : Type 0 where
-  pub refused : (fault : TableFault) → answer ≡ Refused fault → answers.Refused fault ≡ opened n t
-  pub as-sets : answer ≡ AsSets → SetsHeld up n t sets
-  pub as-cells : answer ≡ AsCells → CellsNeeded n t sets
+pub record Chooses (up : Bool) (n : ℕ) (t : List ℕ) (answer : Result Form TableFault) (sets : List ℕ) : Type 0 where
+  pub refused : (fault : TableFault) → answer ≡ Err fault → Err fault ≡ opened n t
+  pub as-sets : answer ≡ Ok Sets → SetsHeld up n t sets
+  pub as-cells : answer ≡ Ok Cells → CellsNeeded n t sets
 
 -- "The old form": the answer is that of acceptance; if the table is accepted, the lent cells hold the bounds of one side.
-pub record Fills (up : Bool) (n : ℕ) (t : List ℕ) (answer : Opened) (cells₀ cells : List (List ℕ)) : Type 0 where
+pub record Fills (up : Bool) (n : ℕ) (t : List ℕ) (answer : TableAnswer) (cells₀ cells : List (List ℕ)) : Type 0 where
   pub answers : answer ≡ opened n t
   pub long : length cells ≡ length cells₀
   pub filled-cells : accepted n t ≡ true → cells ≡ filled n t (side_bound n t up) cells₀

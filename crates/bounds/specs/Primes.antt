@@ -1,6 +1,6 @@
 -- This file says in terms of words which types of an order are irreducible, and whether they are prime. The proofs show that these
 -- tests on words decide what `Sets.antt` defines.
-use Rattle.std.specs.Prelude.{ℕ, ◌-◌, ◌^◌, ◌<◌, ◌≡◌, Bool, true, List, get_or}
+use Rattle.std.specs.Prelude.{ℕ, ◌-◌, ◌^◌, ◌<◌, ◌≡◌, Bool, true, false, List, get_or, Option as Answer, None, Some}
 use Rattle.bounds.specs.declared.primes.Irreducibles.{Irreducibles}
 use Rattle.lattice.specs.Table.{every, implies, found}
 use Rattle.lattice.specs.Words.{word, without, turned, holder}
@@ -18,8 +18,13 @@ module _ (n : ℕ) (ws : List ℕ) where
   unfoldable pub word_prime : ℕ → Bool
   word_prime j = implies (word_irreducible j) (word_splits (turned n ws j))
 
--- What the search for irreducible types answers: whether all of them are prime, and if so the irreducible types and the types above each.
-pub record Finds (n : ℕ) (ws : List ℕ) (r : Irreducibles) : Type 0 where
-  pub primes : r.primes ≡ every n (word_prime n ws)
-  pub types : r.primes ≡ true → r.types ≡ word n (word_irreducible n ws)
-  pub above : r.primes ≡ true → (j : ℕ) → j < n → word_irreducible n ws j ≡ true → get_or r.above j 0 ≡ turned n ws j
+-- All irreducible types are prime, and r has them and the types above each.
+pub record AllPrime (n : ℕ) (ws : List ℕ) (r : Irreducibles) : Type 0 where
+  pub primes : every n (word_prime n ws) ≡ true
+  pub types : r.types ≡ word n (word_irreducible n ws)
+  pub above : (j : ℕ) → j < n → word_irreducible n ws j ≡ true → get_or r.above j 0 ≡ turned n ws j
+
+-- What the search for irreducible types answers: none where not all of them are prime, else these types and the types above each.
+abbrev pub Finds : ℕ → List ℕ → Answer Irreducibles → Type 0
+Finds n ws None = every n (word_prime n ws) ≡ false
+Finds n ws (Some r) = AllPrime n ws r

@@ -8,45 +8,49 @@ ghost use Rattle.std.specs.Prelude.{◌≡◌, true, length};
 ghost use Rattle.lattice.specs.Table.{sized, ordered, side_bound};
 ghost use Rattle.bounds.specs.Opening.{Chooses, Fills, Opening};
 
-use acceptance::{Opened, TableFault};
+use acceptance::TableFault;
 
 mod cells;
 mod primes;
 pub mod sets;
 
-// The form in which the bounds of a table are held: as sets, or in cells that are still to be filled. Or the table is refused.
+// The form in which the bounds of a table are held: as sets, or in cells that are still to be filled.
 #[derive(Clone, Copy)]
 pub enum Form {
-    Refused(TableFault),
-    AsSets,
-    AsCells,
+    Sets,
+    Cells,
 }
 
 // Chooses the form for a table, joins for `up`, else meets. If every irreducible type is prime, the types are held as sets, and the table
 // is accepted or refused. Else the cells decide about refusal 3.
-pub fn choose(n: usize, table: &[u8], up: bool, sets: &mut [u64; sets::WORDS]) -> Form
+pub fn choose(
+    n: usize,
+    table: &[u8],
+    up: bool,
+    sets: &mut [u64; sets::WORDS],
+) -> Result<Form, TableFault>
     requires { length sets.old ≡ 128 }
     ensures { Chooses up n table.now result sets.new }
 {
     if !acceptance::order::is_sized(n, table) {
-        return Form::Refused(TableFault::Size);
+        return Err(TableFault::Size);
     }
     let down = lattice::words::read_words(n, table);
     if !acceptance::order::is_ordered(n, &down) {
-        return Form::Refused(TableFault::Order);
+        return Err(TableFault::Order);
     }
     if !sets::hold(n, &down, up, sets) {
-        return Form::AsCells;
+        return Ok(Form::Cells);
     }
     if !acceptance::covers::are_bounded(n, &down) {
-        return Form::Refused(TableFault::Bounds);
+        return Err(TableFault::Bounds);
     }
-    Form::AsSets
+    Ok(Form::Sets)
 }
 
 // Fills the cells of an ordered table with joins for `up`, else with meets, and answers whether the table is accepted. The bounds of one
 // side are enough for refusal 3: if every two types have one on one side, every two have one on the other.
-pub fn fill(n: usize, table: &[u8], up: bool, cells: &mut [[u8; 64]; 64]) -> Opened
+pub fn fill(n: usize, table: &[u8], up: bool, cells: &mut [[u8; 64]; 64]) -> Result<(), TableFault>
     requires { (sized n table.now ≡ true) × (ordered n table.now ≡ true) }
     ensures { Fills up n table.now result cells.old cells.new }
 {
@@ -65,14 +69,13 @@ pub fn open(
     up: bool,
     sets: &mut [u64; sets::WORDS],
     cells: &mut [[u8; 64]; 64],
-) -> Opened
+) -> Result<(), TableFault>
     requires { (length sets.old ≡ 128) × (length cells.old ≡ 64) }
     ensures { Opening up n table.now (side_bound n table.now up) result sets.new cells.old cells.new }
 {
-    let form = choose(n, table, up, sets);
+    let form = choose(n, table, up, sets)?;
     match form {
-        Form::Refused(fault) => Opened::Refused(fault),
-        Form::AsSets => Opened::Accepted,
-        Form::AsCells => fill(n, table, up, cells),
+        Form::Sets => Ok(()),
+        Form::Cells => fill(n, table, up, cells),
     }
 }

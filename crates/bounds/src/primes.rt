@@ -10,7 +10,7 @@ fn is_irreducible(n: usize, down: &[u64; 64], j: usize) -> bool
     ensures { result ≡ word_irreducible n down.now j }
 {
     let lower = lattice::words::cleared(down[j], j);
-    lattice::search::find_word(down, lower, false) < 64
+    lattice::search::find_word(down, lower, false).is_some()
 }
 
 // Whether an irreducible type is prime, from the word of the types above it: the types not above it are those below one type.
@@ -19,45 +19,33 @@ fn is_prime(n: usize, down: &[u64; 64], above: u64) -> bool
     ensures { result ≡ word_splits n down.now above }
 {
     let others = lattice::words::without(down[n - 1], above);
-    lattice::search::find_word(down, others, false) < 64
+    lattice::search::find_word(down, others, false).is_some()
 }
 
-// Whether every irreducible type is prime. If so, `types` is the word of the irreducible types, and `above[j]` is the word of the types
-// above the irreducible type j.
+// The irreducible types of an order: `types` is their word, and `above[j]` is the word of the types above the irreducible type j.
 #[derive(Clone, Copy)]
 pub struct Irreducibles {
-    pub primes: bool,
     pub types: u64,
     pub above: [u64; 64],
 }
 
-// Finds the irreducible ones of the n types, and stops at the first that is not prime.
-pub fn find_irreducibles(n: usize, down: &[u64; 64]) -> Irreducibles
+// Finds the irreducible ones of the n types, if all of them are prime. The search stops at the first that is not.
+pub fn find_irreducibles(n: usize, down: &[u64; 64]) -> Option<Irreducibles>
     requires { (n ≤ 64) × Sided n down.now }
     ensures { Finds n down.now result }
 {
     let mut types = 0u64;
     let mut above = [0u64; 64];
-    let mut j = 0;
-    while j < n {
+    for j in 0..n {
         let stands = is_irreducible(n, down, j);
         if stands {
             let up = lattice::words::turn_word(n, down, j);
             if !is_prime(n, down, up) {
-                return Irreducibles {
-                    primes: false,
-                    types,
-                    above,
-                };
+                return None;
             }
             above[j] = up;
         }
         types = lattice::words::with_bit(types, j, stands);
-        j += 1;
     }
-    Irreducibles {
-        primes: true,
-        types,
-        above,
-    }
+    Some(Irreducibles { types, above })
 }

@@ -1,6 +1,6 @@
 -- The definition of an operation with a list or without one gives both calls: the call with a list of types for features, and the call without
 -- one, for which the list is empty.
-use mathlib.Core.Path.{◌≡◌, refl, ap, ap₂}
+use mathlib.Core.Path.{◌≡◌, refl, ap, ap₂, subst}
 use mathlib.Core.Bool.{Bool, true, false, cond}
 use mathlib.Core.List.{List}
 use mathlib.Core.Logic.{◌⊎◌, inl, inr}
@@ -10,10 +10,11 @@ use lib.ListN.{length}
 use Rattle.graphs.specs.Rows.{Row}
 use Rattle.lattice.specs.Label.{Label}
 use Rattle.acceptance.specs.Reply as table
+use Rattle.bounds.specs.Opening.{OpenedFor}
 use Rattle.record.specs.Read.{Reading, reading}
 use Rattle.record.specs.Appropriate.{list_accepted, reading_appropriate}
-use Rattle.replies.specs.declared.Reply.{Reply}
-use Rattle.replies.specs.declared.Reply.TheVariants.{TypeList}
+use Rattle.replies.specs.Replies.{Reply}
+use Rattle.replies.specs.Replies.{TypeList}
 use Rattle.replies.specs.Reply.{Result, refusing}
 use Rattle.pairs.specs.Pair.{Optional, read_both, reading_beside}
 use Rattle.pairs.proofs.Readings.{accepted-long, optional-none, reading-listed, reading-plain}
@@ -24,6 +25,11 @@ use Rattle.calls.specs.Calls.{checked, checked_list, rewriting, generalizing, un
 use Rattle.calls.specs.Appropriate.{rewriting_appropriate, generalizing_appropriate, unifying_appropriate}
 use Rattle.calls.specs.Beside.{checked_beside, rewriting_beside, generalizing_beside, unifying_beside}
 use Rattle.calls.proofs.Listed.{Checks}
+
+-- A table that is opened for joins or meets is opened for an operation that takes them.
+pub opened-as : {joins takes : Bool} → joins ≡ takes → {n : ℕ} {t sets : List ℕ} {cells : List (List ℕ)} → OpenedFor joins n t sets cells →
+    OpenedFor takes n t sets cells
+opened-as same {n} {t} {sets} {cells} = subst (λ (b : Bool). OpenedFor b n t sets cells) same
 
 -- A list that passes the test is empty or accepted.
 pub optional-passed : (n : ℕ) (listed : Bool) (list : List ℕ) → (listed ≡ false → length list ≡ 0) → cond listed (list_accepted n list) true ≡ true →

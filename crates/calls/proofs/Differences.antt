@@ -5,13 +5,13 @@ use mathlib.Core.List.{List}
 use Prim.Native.Nat.{ℕ}
 use Rattle.graphs.specs.Difference.{Link, by_number, by_reading}
 use Rattle.acceptance.specs.declared.TableFault.{TableFault}
-use Rattle.acceptance.specs.declared.Opened.TheVariants as opened
+use Rattle.std.specs.Prelude.{Ok, Err}
 use Rattle.acceptance.specs.Reply as table
 use Rattle.link_orders.specs.LinkOrders.{is_reading_order}
 use Rattle.difference.specs.Explained.{Explained, explained_result, with_reasons_if}
 use Rattle.difference.proofs.Answering.{refuses-with-reasons}
-use Rattle.replies.specs.declared.Reply.{Reply}
-use Rattle.replies.specs.declared.Reply.TheVariants.{Table, ReadingOrder}
+use Rattle.replies.specs.Replies.{Reply}
+use Rattle.replies.specs.Replies.{Table, ReadingOrder}
 use Rattle.replies.specs.Reply.{Result, resulting, refusing}
 use Rattle.engine.specs.Differing.{parting, reasons_of}
 use Rattle.calls.specs.Calls.{differing}
@@ -39,7 +39,7 @@ module _ (explained : Bool) (n : ℕ) (t a b out old : List ℕ) where
   parting_by earlier = with_reasons_if explained (parting earlier n t a b out) (reasons_of earlier n t a b) out old
 
   -- If the table is refused, the reply is the refusal 1 to 3.
-  pub differing-refused : (fault : TableFault) → table.opened n t ≡ opened.Refused fault →
+  pub differing-refused : (fault : TableFault) → table.opened n t ≡ Err fault →
       explained_result (Table fault) out old ≡ differing_with explained n t a b out old
   unfolding differing
   differing-refused fault e =
@@ -47,7 +47,7 @@ module _ (explained : Bool) (n : ℕ) (t a b out old : List ℕ) where
       (sym (table-refused (λ r. refusing r out) (parting by_number n t a b out) fault e))
 
   -- If the table is accepted, the result is the difference by document 01's order of links.
-  pub differing-accepted : {earlier : Link ℕ → Link ℕ → Bool} {x : Explained} → table.opened n t ≡ opened.Accepted → earlier ≡ by_number →
+  pub differing-accepted : {earlier : Link ℕ → Link ℕ → Bool} {x : Explained} → table.opened n t ≡ Ok tt → earlier ≡ by_number →
       x ≡ parting_by earlier → x ≡ differing_with explained n t a b out old
   unfolding differing
   differing-accepted e same h =
@@ -57,13 +57,13 @@ module _ (explained : Bool) (n : ℕ) (t a b out old : List ℕ) where
 
   -- For a call with a list, the list is tested after the table, and the result is the difference by the list's order of links.
   module _ (list : List ℕ) where
-    pub differing-by-refused : (fault : TableFault) → table.opened n t ≡ opened.Refused fault →
+    pub differing-by-refused : (fault : TableFault) → table.opened n t ≡ Err fault →
         explained_result (Table fault) out old ≡ differing_by_with explained n t list a b out old
     differing-by-refused fault e =
         refuses-with-reasons explained (Table fault) (reasons_of (by_reading list) n t a b) out old refl
         (table-before-list (differing-checked n t list a b out) fault e)
 
-    module _ (opens : table.opened n t ≡ opened.Accepted) where
+    module _ (opens : table.opened n t ≡ Ok tt) where
       pub differing-by-list : is_reading_order list ≡ false →
           explained_result ReadingOrder out old ≡ differing_by_with explained n t list a b out old
       differing-by-list e =

@@ -5,14 +5,14 @@ use mathlib.Core.List.{List}
 use mathlib.Core.Logic.{◌↔◌}
 use Prim.Native.Nat.{ℕ}
 use Rattle.acceptance.specs.declared.TableFault.{TableFault}
-use Rattle.acceptance.specs.declared.Opened.{Opened}
-use Rattle.acceptance.specs.declared.Opened.TheVariants as opened
+use Rattle.acceptance.specs.Reply.{TableAnswer}
+use Rattle.std.specs.Prelude.{Ok, Err}
 use Rattle.acceptance.specs.Reply as table
 use Rattle.graphs.specs.Difference.{by_reading}
 use Rattle.link_orders.specs.LinkOrders.{is_reading_order}
 use Rattle.record.specs.Appropriate.{list_accepted, reading_appropriate}
-use Rattle.replies.specs.declared.Reply.{Reply}
-use Rattle.replies.specs.declared.Reply.TheVariants.{Table, TypeList, ReadingOrder}
+use Rattle.replies.specs.Replies.{Reply}
+use Rattle.replies.specs.Replies.{Table, TypeList, ReadingOrder}
 use Rattle.replies.specs.Reply.{Result, refusing}
 use Rattle.pairs.specs.Pair.{read_both}
 use Rattle.engine.specs.Rewriting.{rewritten}
@@ -30,10 +30,10 @@ pub record Checks (n : ℕ) (t : List ℕ) (listed : Bool) (wrong : Reply) (out 
 module _ {n : ℕ} {t : List ℕ} {listed : Bool} {wrong : Reply} {out : List ℕ} {call next : Result}
     (checks : Checks n t listed wrong out call next) where
   -- If the table is refused, the reply is the refusal 1 to 3.
-  pub table-before-list : (fault : TableFault) → table.opened n t ≡ opened.Refused fault → refusing (Table fault) out ≡ call
+  pub table-before-list : (fault : TableFault) → table.opened n t ≡ Err fault → refusing (Table fault) out ≡ call
   table-before-list fault e = sym (checks.is ∙ table-refused (λ r. refusing r out) (cond listed next (refusing wrong out)) fault e)
 
-  module _ (opens : table.opened n t ≡ opened.Accepted) where
+  module _ (opens : table.opened n t ≡ Ok tt) where
     over-table : call ≡ cond listed next (refusing wrong out)
     over-table = checks.is ∙ table-accepted (λ r. refusing r out) (cond listed next (refusing wrong out)) opens
 
@@ -47,20 +47,20 @@ module _ {n : ℕ} {t : List ℕ} {listed : Bool} {wrong : Reply} {out : List �
   -- The reply is the list's refusal exactly if the table is accepted and the list is not. This holds if neither a table's refusal nor `next` has
   -- that reply.
   pub list-exact : ((fault : TableFault) → Table fault ≡ wrong → ⊥) → (next.reply ≡ wrong → ⊥) →
-      (call.reply ≡ wrong) ↔ ((table.opened n t ≡ opened.Accepted) × (listed ≡ false))
+      (call.reply ≡ wrong) ↔ ((table.opened n t ≡ Ok tt) × (listed ≡ false))
   list-exact other never = (
     λ q. go q (table.opened n t) refl,
     λ (opens, e). ap (λ (r : Result). r.reply) (sym (list-refused opens e)),
   )
     where
-      list-tested : call.reply ≡ wrong → (opens : table.opened n t ≡ opened.Accepted) → (b : Bool) → listed ≡ b →
-          (table.opened n t ≡ opened.Accepted) × (listed ≡ false)
+      list-tested : call.reply ≡ wrong → (opens : table.opened n t ≡ Ok tt) → (b : Bool) → listed ≡ b →
+          (table.opened n t ≡ Ok tt) × (listed ≡ false)
       list-tested q opens true e = absurd (never (ap (λ (r : Result). r.reply) (list-passed opens e) ∙ q))
       list-tested q opens false e = (opens, e)
 
-      go : call.reply ≡ wrong → (o : Opened) → table.opened n t ≡ o → (table.opened n t ≡ opened.Accepted) × (listed ≡ false)
-      go q (opened.Refused fault) e = absurd (other fault (ap (λ (r : Result). r.reply) (table-before-list fault e) ∙ q))
-      go q opened.Accepted e = list-tested q e listed refl
+      go : call.reply ≡ wrong → (o : TableAnswer) → table.opened n t ≡ o → (table.opened n t ≡ Ok tt) × (listed ≡ false)
+      go q (Err fault) e = absurd (other fault (ap (λ (r : Result). r.reply) (table-before-list fault e) ∙ q))
+      go q (Ok tt) e = list-tested q e listed refl
 
 -- The calls with a list of types for features.
 module _ (n : ℕ) (t list out : List ℕ) where

@@ -2,7 +2,7 @@
 -- combination each get a call with a list, which otherwise replies as the plain one."
 use Rattle.std.specs.Prelude.{List, ℕ}
 use Rattle.record.specs.Appropriate.{list_accepted, reading_appropriate}
-use Rattle.replies.specs.declared.Reply.TheVariants.{TypeList}
+use Rattle.replies.specs.Replies.{TypeList}
 use Rattle.replies.specs.Reply.{Result, refusing}
 use Rattle.pairs.specs.Pair.{read_both}
 use Rattle.engine.specs.Rewriting.{rewritten}

@@ -2,7 +2,7 @@
 -- tells whether there is a list. Without a list, `list` is empty.
 use Rattle.std.specs.Prelude.{Bool, true, cond, List, ℕ}
 use Rattle.record.specs.Appropriate.{list_accepted}
-use Rattle.replies.specs.declared.Reply.TheVariants.{TypeList}
+use Rattle.replies.specs.Replies.{TypeList}
 use Rattle.replies.specs.Reply.{Result}
 use Rattle.pairs.specs.Pair.{reading_beside}
 use Rattle.engine.specs.Rewriting.{rewritten}

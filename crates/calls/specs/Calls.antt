@@ -1,15 +1,14 @@
 -- What each call replies, and what it leaves in the output (document 01, "Returned by a call"; document 02, Papers 3 and 10). Each definition has
 -- the checks in their order.
-use Rattle.std.specs.Prelude.{Bool, cond, List, ℕ}
+use Rattle.std.specs.Prelude.{Bool, cond, List, ℕ, Ok, Err}
 use Rattle.graphs.specs.Difference.{by_number, by_reading}
-use Rattle.acceptance.specs.declared.Opened.{Opened}
-use Rattle.acceptance.specs.declared.Opened.TheVariants as opened
+use Rattle.acceptance.specs.Reply.{TableAnswer}
 use Rattle.acceptance.specs.Reply as table
 use Rattle.record.specs.Read.{reading}
 use Rattle.link_orders.specs.LinkOrders.{is_reading_order}
 use Rattle.difference.specs.Difference.{differed_rows}
-use Rattle.replies.specs.declared.Reply.{Reply}
-use Rattle.replies.specs.declared.Reply.TheVariants.{Length, Table, ReadingOrder}
+use Rattle.replies.specs.Replies.{Reply}
+use Rattle.replies.specs.Replies.{Length, Table, ReadingOrder}
 use Rattle.replies.specs.Reply.{Result, refusing}
 use Rattle.pairs.specs.Pair.{read_both}
 use Rattle.engine.specs.Rewriting.{rewritten}
@@ -18,9 +17,9 @@ use Rattle.engine.specs.Generalizing.{generalized}
 use Rattle.engine.specs.Unifying.{unified_rows}
 
 -- The table's 1 to 3 are checked; then the call goes on with `next`. `refuse` makes the call's result from a refusal.
-abbrev pub checked : {X : Type 0} → (Reply → X) → Opened → X → X
-checked refuse (opened.Refused fault) next = refuse (Table fault)
-checked refuse opened.Accepted next = next
+abbrev pub checked : {X : Type 0} → (Reply → X) → TableAnswer → X → X
+checked refuse (Err fault) next = refuse (Table fault)
+checked refuse (Ok tt) next = next
 
 -- The table's 1 to 3 are checked and, "after the table", the list; then the call goes on with `next`. `listed` tells whether the list is accepted,
 -- and `fault` is the reply if it is not.

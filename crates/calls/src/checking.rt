@@ -3,16 +3,12 @@
 ghost use Rattle.std.specs.Prelude.{◌≡◌};
 ghost use Rattle.calls.specs.Calls.{checking};
 
-use acceptance::Opened;
-use replies::Reply;
+use replies::{Reply, Success};
 
 // Replies with a length of 0 if the table is accepted, else with the refusal 1, 2 or 3.
 pub fn check(n: usize, table: &[u8]) -> Reply
     ensures { result ≡ checking n table.now }
 {
-    let opened = acceptance::accept(n, table);
-    match opened {
-        Opened::Refused(fault) => Reply::Table(fault),
-        Opened::Accepted => Reply::Length(0),
-    }
+    acceptance::accept(n, table)?;
+    Ok(Success::Length(0))
 }

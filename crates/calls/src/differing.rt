@@ -6,14 +6,20 @@ ghost use Rattle.replies.specs.Reply.{resulting};
 ghost use Rattle.difference.specs.Explained.{explained_result};
 ghost use Rattle.calls.specs.Calls.{differing, differing_by};
 ghost use Rattle.calls.specs.Explained.{explaining, explaining_by, differing_with, differing_by_with};
+ghost use Rattle.replies.specs.Replies.{told};
 
-use acceptance::Opened;
 use difference::Options;
-use replies::Reply;
+use replies::Refusal;
 
 // Writes the difference of the first graph, g, and the second, s. Links are ordered by parent number, then feature.
-pub fn difference(n: usize, table: &[u8], first: &[u8], second: &[u8], out: &mut [u8]) -> Reply
-    ensures { resulting result out.new ≡ differing n table.now first.now second.now out.old }
+pub fn difference(
+    n: usize,
+    table: &[u8],
+    first: &[u8],
+    second: &[u8],
+    out: &mut [u8],
+) -> Result<usize, Refusal>
+    ensures { resulting (told result) out.new ≡ differing n table.now first.now second.now out.old }
 {
     let mut none = [0u8; 0];
     difference_with(n, table, false, first, second, out, &mut none)
@@ -27,8 +33,8 @@ pub fn difference_by(
     first: &[u8],
     second: &[u8],
     out: &mut [u8],
-) -> Reply
-    ensures { resulting result out.new ≡ differing_by n table.now list.now first.now second.now out.old }
+) -> Result<usize, Refusal>
+    ensures { resulting (told result) out.new ≡ differing_by n table.now list.now first.now second.now out.old }
 {
     let mut none = [0u8; 0];
     difference_by_with(n, table, list, false, first, second, out, &mut none)
@@ -42,8 +48,8 @@ pub fn difference_explained(
     second: &[u8],
     out: &mut [u8],
     reasons: &mut [u8],
-) -> Reply
-    ensures { explained_result result out.new reasons.new ≡
+) -> Result<usize, Refusal>
+    ensures { explained_result (told result) out.new reasons.new ≡
         explaining n table.now first.now second.now out.old reasons.old }
 {
     difference_with(n, table, true, first, second, out, reasons)
@@ -58,8 +64,8 @@ pub fn difference_explained_by(
     second: &[u8],
     out: &mut [u8],
     reasons: &mut [u8],
-) -> Reply
-    ensures { explained_result result out.new reasons.new ≡
+) -> Result<usize, Refusal>
+    ensures { explained_result (told result) out.new reasons.new ≡
         explaining_by n table.now list.now first.now second.now out.old reasons.old }
 {
     difference_by_with(n, table, list, true, first, second, out, reasons)
@@ -74,19 +80,14 @@ fn difference_with(
     second: &[u8],
     out: &mut [u8],
     reasons: &mut [u8],
-) -> Reply
-    ensures { explained_result result out.new reasons.new ≡
+) -> Result<usize, Refusal>
+    ensures { explained_result (told result) out.new reasons.new ≡
         differing_with explained n table.now first.now second.now out.old reasons.old }
 {
-    let opened = acceptance::accept(n, table);
-    match opened {
-        Opened::Refused(fault) => Reply::Table(fault),
-        Opened::Accepted => {
-            let order = link_orders::by_number();
-            let options = Options { order, explained };
-            engine::differing::of_records(n, table, options, first, second, out, reasons)
-        }
-    }
+    acceptance::accept(n, table)?;
+    let order = link_orders::by_number();
+    let options = Options { order, explained };
+    engine::differing::of_records(n, table, options, first, second, out, reasons)
 }
 
 // Writes the difference of g and s, with links ordered by a list of features, and, if `explained`, its reasons.
@@ -99,20 +100,15 @@ fn difference_by_with(
     second: &[u8],
     out: &mut [u8],
     reasons: &mut [u8],
-) -> Reply
-    ensures { explained_result result out.new reasons.new ≡
+) -> Result<usize, Refusal>
+    ensures { explained_result (told result) out.new reasons.new ≡
         differing_by_with explained n table.now list.now first.now second.now out.old reasons.old }
 {
-    let opened = acceptance::accept(n, table);
-    match opened {
-        Opened::Refused(fault) => Reply::Table(fault),
-        Opened::Accepted => {
-            if !link_orders::is_reading_order(list) {
-                return Reply::ReadingOrder;
-            }
-            let order = link_orders::by_list(list);
-            let options = Options { order, explained };
-            engine::differing::of_records(n, table, options, first, second, out, reasons)
-        }
+    acceptance::accept(n, table)?;
+    if !link_orders::is_reading_order(list) {
+        return Err(Refusal::ReadingOrder);
     }
+    let order = link_orders::by_list(list);
+    let options = Options { order, explained };
+    engine::differing::of_records(n, table, options, first, second, out, reasons)
 }

@@ -6,13 +6,13 @@ ghost use Rattle.replies.specs.Reply.{resulting};
 ghost use Rattle.calls.specs.Calls.{rewriting};
 ghost use Rattle.calls.specs.Appropriate.{rewriting_appropriate};
 ghost use Rattle.calls.specs.Beside.{rewriting_beside};
+ghost use Rattle.replies.specs.Replies.{told};
 
-use acceptance::Opened;
-use replies::Reply;
+use replies::Refusal;
 
 // Writes a record in written form.
-pub fn rewrite(n: usize, table: &[u8], bytes: &[u8], out: &mut [u8]) -> Reply
-    ensures { resulting result out.new ≡ rewriting n table.now bytes.now out.old }
+pub fn rewrite(n: usize, table: &[u8], bytes: &[u8], out: &mut [u8]) -> Result<usize, Refusal>
+    ensures { resulting (told result) out.new ≡ rewriting n table.now bytes.now out.old }
 {
     rewrite_beside(n, table, false, &table[..0], bytes, out)
 }
@@ -24,8 +24,8 @@ pub fn rewrite_appropriate(
     list: &[u8],
     bytes: &[u8],
     out: &mut [u8],
-) -> Reply
-    ensures { resulting result out.new ≡ rewriting_appropriate n table.now list.now bytes.now out.old }
+) -> Result<usize, Refusal>
+    ensures { resulting (told result) out.new ≡ rewriting_appropriate n table.now list.now bytes.now out.old }
 {
     rewrite_beside(n, table, true, list, bytes, out)
 }
@@ -38,18 +38,13 @@ fn rewrite_beside(
     list: &[u8],
     bytes: &[u8],
     out: &mut [u8],
-) -> Reply
+) -> Result<usize, Refusal>
     requires { listed ≡ false → length list.now ≡ 0 }
-    ensures { resulting result out.new ≡ rewriting_beside n table.now listed list.now bytes.now out.old }
+    ensures { resulting (told result) out.new ≡ rewriting_beside n table.now listed list.now bytes.now out.old }
 {
-    let opened = acceptance::accept(n, table);
-    match opened {
-        Opened::Refused(fault) => Reply::Table(fault),
-        Opened::Accepted => {
-            if listed && !record::appropriate::is_list_accepted(n, list) {
-                return Reply::TypeList;
-            }
-            engine::rewriting::of_record(n, table, list, bytes, out)
-        }
+    acceptance::accept(n, table)?;
+    if listed && !record::appropriate::is_list_accepted(n, list) {
+        return Err(Refusal::TypeList);
     }
+    engine::rewriting::of_record(n, table, list, bytes, out)
 }

@@ -1,22 +1,27 @@
 // The calls that write the combination of two records (document 01, "Combination"), without a list of types for features or with one (document 02,
 // Paper 9).
 
-ghost use Rattle.std.specs.Prelude.{◌≡◌, false, length};
-ghost use Rattle.bounds.specs.Opening.{CellsNeeded};
+ghost use Rattle.std.specs.Prelude.{◌≡◌};
 ghost use Rattle.replies.specs.Reply.{resulting};
 ghost use Rattle.calls.specs.Calls.{unifying};
 ghost use Rattle.calls.specs.Appropriate.{unifying_appropriate};
-ghost use Rattle.calls.specs.Beside.{unifying_beside};
+ghost use Rattle.replies.specs.Replies.{told};
 
-use acceptance::Opened;
-use bounds::Form;
-use replies::Reply;
+use crate::operating::operate_beside;
+use engine::unifying::Combination;
+use replies::Refusal;
 
 // Writes the combination of two records.
-pub fn unify(n: usize, table: &[u8], first: &[u8], second: &[u8], out: &mut [u8]) -> Reply
-    ensures { resulting result out.new ≡ unifying n table.now first.now second.now out.old }
+pub fn unify(
+    n: usize,
+    table: &[u8],
+    first: &[u8],
+    second: &[u8],
+    out: &mut [u8],
+) -> Result<usize, Refusal>
+    ensures { resulting (told result) out.new ≡ unifying n table.now first.now second.now out.old }
 {
-    unify_beside(n, table, false, &table[..0], first, second, out)
+    operate_beside::<Combination>(n, table, false, &[], first, second, out)
 }
 
 // Writes the combination of two records if both obey a list. The list gives for each feature the broadest type that may have it.
@@ -27,65 +32,8 @@ pub fn unify_appropriate(
     first: &[u8],
     second: &[u8],
     out: &mut [u8],
-) -> Reply
-    ensures { resulting result out.new ≡ unifying_appropriate n table.now list.now first.now second.now out.old }
+) -> Result<usize, Refusal>
+    ensures { resulting (told result) out.new ≡ unifying_appropriate n table.now list.now first.now second.now out.old }
 {
-    unify_beside(n, table, true, list, first, second, out)
-}
-
-// Replies as `unify_appropriate` does if `listed`, else as `unify` does. Without a list, `list` is empty.
-fn unify_beside(
-    n: usize,
-    table: &[u8],
-    listed: bool,
-    list: &[u8],
-    first: &[u8],
-    second: &[u8],
-    out: &mut [u8],
-) -> Reply
-    requires { listed ≡ false → length list.now ≡ 0 }
-    ensures { resulting result out.new ≡
-        unifying_beside n table.now listed list.now first.now second.now out.old }
-{
-    let mut sets = [0u64; bounds::sets::WORDS];
-    let form = bounds::choose(n, table, false, &mut sets);
-    match form {
-        Form::Refused(fault) => Reply::Table(fault),
-        Form::AsCells => unify_by_cells(n, table, listed, list, &sets, first, second, out),
-        Form::AsSets => {
-            if listed && !record::appropriate::is_list_accepted(n, list) {
-                return Reply::TypeList;
-            }
-            let none = [[0u8; 64]; 0];
-            engine::unifying::of_records(n, table, list, &sets, &none, first, second, out)
-        }
-    }
-}
-
-// Replies as `unify_beside` does, for a table that needs cells.
-fn unify_by_cells<'a>(
-    n: usize,
-    table: &[u8],
-    listed: bool,
-    list: &[u8],
-    sets: &'a [u64; bounds::sets::WORDS],
-    first: &[u8],
-    second: &[u8],
-    out: &mut [u8],
-) -> Reply
-    requires { CellsNeeded n table.now sets.now × (listed ≡ false → length list.now ≡ 0) }
-    ensures { resulting result out.new ≡
-        unifying_beside n table.now listed list.now first.now second.now out.old }
-{
-    let mut cells = [[0u8; 64]; 64];
-    let opened = bounds::fill(n, table, false, &mut cells);
-    match opened {
-        Opened::Refused(fault) => Reply::Table(fault),
-        Opened::Accepted => {
-            if listed && !record::appropriate::is_list_accepted(n, list) {
-                return Reply::TypeList;
-            }
-            engine::unifying::of_records(n, table, list, sets, &cells, first, second, out)
-        }
-    }
+    operate_beside::<Combination>(n, table, true, list, first, second, out)
 }

@@ -9,10 +9,8 @@ pub fn separate(nodes: usize, parent: &mut [u16; 510])
     ensures parent_len { length parent.new ≡ 510 }
     ensures by_index { (x : ℕ) → x < nodes → get_or parent.new x 0 ≡ x }
 {
-    let mut x = 0;
-    while x < nodes {
+    for x in 0..nodes {
         parent[x] = x as u16;
-        x += 1;
     }
 }
 
@@ -53,10 +51,8 @@ pub fn flatten(nodes: usize, parent: &mut [u16; 510])
     ensures parent_len { length parent.new ≡ 510 }
     ensures by_index { (x : ℕ) → x < nodes → get_or parent.new x 0 ≡ root_of parent.old x }
 {
-    let mut x = 0;
-    while x < nodes {
+    for x in 0..nodes {
         let up = parent[x] as usize;
         parent[x] = parent[up];
-        x += 1;
     }
 }

@@ -9,13 +9,14 @@ use native.Mathlib.Omega.{arith}
 use borrow.Author.Tests.{le-leb, lt-leb, lt-ltb, le-ltb}
 use lib.ListN.{length, take, drop, get_or, set, get_or-eq_default, length-drop}
 use lib.Seq.{paste, take-length, set_split, take-set-le, get_or-set_same, get_or-drop}
-use Rattle.encode.specs.declared.Written.TheVariants as outcome
+use Rattle.std.specs.Prelude.{Ok, Err}
+use Rattle.encode.specs.declared.Unwritten.TheVariants as unwritten
 use Rattle.encode.specs.Encode.{yielding, fitted}
 use Rattle.record.specs.declared.GraphFault.TheVariants.{Malformed}
 use Rattle.record.specs.Read.{Reading, refused, accepted, reading}
 use Rattle.replies.specs.declared.Side.TheVariants.{First}
-use Rattle.replies.specs.declared.Reply.{Reply}
-use Rattle.replies.specs.declared.Reply.TheVariants.{Length, Graph, NoRoom, WrongVersion}
+use Rattle.replies.specs.Replies.{Reply}
+use Rattle.replies.specs.Replies.{Length, Graph, NoRoom, WrongVersion}
 use Rattle.replies.specs.Reply.{Result, resulting, result_of, length_of, Bounded}
 use Rattle.gathering.specs.Gathering.{length_at}
 use Rattle.gathering.proofs.Told.{none-some}
@@ -241,7 +242,7 @@ module _ {n : ℕ} {t buffer slots part state : List ℕ} {answer : Bool} (opens
             resulting NoRoom out ≡ given out (on_held (held n t buffer) (λ qs. on_present (get_or qs version none) made))
         unfolding fitted
         read_short h =
-            sym (ap (λ (b : Bool). result_of (cond b (yielding (outcome.Length (length found)) (found ++ drop (length found) out)) (yielding outcome.NoRoom out)))
+            sym (ap (λ (b : Bool). result_of (cond b (yielding (Ok (length found)) (found ++ drop (length found) out)) (yielding (Err unwritten.NoRoom) out)))
             (lt-leb (length found) (length out) (omega (arith, h, found-length))))
             ∙ read_by (some found) (present version low e)
 
@@ -251,7 +252,7 @@ module _ {n : ℕ} {t buffer slots part state : List ℕ} {answer : Bool} (opens
         read_fits h is =
             ap₂ (λ (k : ℕ) (bytes : List ℕ). resulting (Length k) bytes) (sym found-length)
             (is ∙ ap₂ (λ (s : List ℕ) (k : ℕ). s ++ drop k out) (take-length found) (zero-add (length found)))
-            ∙ sym (ap (λ (b : Bool). result_of (cond b (yielding (outcome.Length (length found)) (found ++ drop (length found) out)) (yielding outcome.NoRoom out)))
+            ∙ sym (ap (λ (b : Bool). result_of (cond b (yielding (Ok (length found)) (found ++ drop (length found) out)) (yielding (Err unwritten.NoRoom) out)))
             (le-leb (length found) (length out) (omega (arith, h, found-length))))
             ∙ read_by (some found) (present version low e)
 

@@ -8,24 +8,23 @@ use borrow.Author.Tests.{le-leb}
 use lib.Dec.{eqb}
 use lib.ListN.{length, take, drop, length-append, length-drop}
 use lib.Seq.{take-append_seam, length-take-le}
+use Rattle.std.specs.Prelude.{Ok, Err}
 use Rattle.graphs.specs.Rows.{Row}
 use Rattle.graphs.specs.Number.{Canonical, canonical, written}
 use Rattle.lattice.specs.Label.{Label}
 use Rattle.encoder.specs.Encode.{encoded}
-use Rattle.encode.specs.declared.Written.TheVariants as outcome
+use Rattle.encode.specs.declared.Unwritten.TheVariants as unwritten
 use Rattle.encode.specs.Encode.{yielding, fitted, written_out}
 use Rattle.encoder.proofs.Lengths.{longest}
 use Rattle.record.specs.declared.GraphFault.{GraphFault}
-use Rattle.record.specs.declared.reading.Verdict.{Verdict}
-use Rattle.record.specs.declared.reading.Verdict.TheVariants.{Refused}
 use Rattle.record.specs.Read.{Reading, accepted, reading, graph_of_rows}
-use Rattle.record.specs.Reads.{Reads}
+use Rattle.record.specs.Reads.{Reads, Verdict}
 use Rattle.record.proofs.Accepted.{accepted-rules}
 use Rattle.record.proofs.Theorems.{accepted-fits, written-accepted}
 use Rattle.difference.specs.Difference.{numbered}
 use Rattle.replies.specs.declared.Side.TheVariants.{Second}
-use Rattle.replies.specs.declared.Reply.{Reply}
-use Rattle.replies.specs.declared.Reply.TheVariants.{Length, Graph}
+use Rattle.replies.specs.Replies.{Reply}
+use Rattle.replies.specs.Replies.{Length, Graph}
 use Rattle.replies.specs.Reply.{Result, resulting, result_of}
 use Rattle.pairs.proofs.Readings.{told-refused}
 use Rattle.engine.specs.Rewriting.{rewritten_rows}
@@ -34,7 +33,7 @@ use Rattle.contents.specs.Contents.{on_program}
 use Rattle.contents.specs.Promise.{Programmed}
 
 -- its 4 to 7
-pub program-refused : {n : ℕ} {bytes ws : List ℕ} {v : Verdict} → Reads n bytes v ws → (fault : GraphFault) → v ≡ Refused fault → (out : List ℕ) → length out ≡ 4854 →
+pub program-refused : {n : ℕ} {bytes ws : List ℕ} {v : Verdict} → Reads n bytes v ws → (fault : GraphFault) → v ≡ Err fault → (out : List ℕ) → length out ≡ 4854 →
     Programmed n bytes (Graph fault Second) out
 program-refused reads fault e out room = record {
   long = room;
@@ -60,7 +59,7 @@ module _ (n : ℕ) (bytes : List ℕ) (rows : List (Row Label)) (ok : reading n 
   unfolding written_out fitted
   form-written =
       ap (λ (c : Canonical Label). result_of (written_out c out)) is-form
-      ∙ ap (λ (b : Bool). result_of (cond b (yielding (outcome.Length (length (encoded form))) (encoded form ++ drop (length (encoded form)) out)) (yielding outcome.NoRoom out)))
+      ∙ ap (λ (b : Bool). result_of (cond b (yielding (Ok (length (encoded form))) (encoded form ++ drop (length (encoded form)) out)) (yielding (Err unwritten.NoRoom) out)))
       (le-leb (length (encoded form)) (length out) (omega (arith, form-short)))
 
   form-some : 1 ≤ length (encoded form)

@@ -11,7 +11,7 @@ use Rattle.record.specs.declared.GraphFault.TheVariants.{Malformed}
 use Rattle.record.specs.Read.{Reading, refused, accepted, reading, graph_of_rows}
 use Rattle.difference.specs.Difference.{numbered}
 use Rattle.replies.specs.declared.Side.TheVariants.{First, Second}
-use Rattle.replies.specs.declared.Reply.TheVariants.{Graph, WrongVersion}
+use Rattle.replies.specs.Replies.{Graph, WrongVersion}
 use Rattle.replies.specs.Reply.{Result, refusing, result_of}
 use Rattle.versions.specs.State.{Made, made, stopped, Programs, way}
 

@@ -1,8 +1,8 @@
 -- What the parts of a store's calls promise to each other.
 use Rattle.std.specs.Prelude.{◌≡◌, List, ℕ, ◌≤◌, length}
 use Rattle.record.specs.Read.{reading}
-use Rattle.replies.specs.declared.Reply.{Reply}
-use Rattle.replies.specs.declared.Reply.TheVariants.{Length}
+use Rattle.replies.specs.Replies.{Reply}
+use Rattle.replies.specs.Replies.{Length}
 use Rattle.replies.specs.Reply.{resulting, Bounded}
 use Rattle.versions.specs.State.{Made, made, taken}
 use Rattle.contents.specs.Contents.{on_program}

@@ -10,10 +10,10 @@ ghost use Rattle.replies.specs.Reply.{resulting};
 ghost use Rattle.versions.specs.State.{held, made};
 ghost use Rattle.contents.specs.Contents.{drop_among, given, on_held, on_present, put_among};
 ghost use Rattle.contents.specs.Promise.{Among, Programmed};
+ghost use Rattle.replies.specs.Replies.{told};
 
 use record::GraphFault;
-use record::reading::Verdict;
-use replies::{Reply, Side};
+use replies::{Refusal, Side};
 
 // The most bytes of a store.
 pub const MOST: usize = 16384;
@@ -28,26 +28,23 @@ pub fn put_among<'a>(
     version: usize,
     bytes: &[u8],
     state: &mut [u8],
-) -> Reply
+) -> Result<usize, Refusal>
     requires { OpenedFor true n table.now sets.now cells.now × (length state.old ≡ length store.now) × (length store.now ≤ 16384) }
     ensures { Among (on_held (held n table.now store.now)
-        (put_among n table.now (length store.now) version bytes.now)) state.old result state.new }
+        (put_among n table.now (length store.now) version bytes.now)) state.old (told result) state.new }
 {
     let mut slots = [0u8; versions::slots::SLOTS];
     let mut part = [0u8; versions::slots::SLOT];
     if !way::is_held(n, table, sets, cells, store, &mut slots, &mut part, state) {
-        return Reply::Graph(GraphFault::Malformed, Side::First);
+        return Err(Refusal::Graph(GraphFault::Malformed, Side::First));
     }
     let mut record = [0u8; gathering::LONGEST];
-    let reply = write_program(n, bytes, &mut record);
-    let Reply::Length(length) = reply else {
-        return reply;
-    };
+    let length = write_program(n, bytes, &mut record)?;
     if version >= versions::slots::VERSIONS {
-        return Reply::WrongVersion;
+        return Err(Refusal::WrongVersion);
     }
     if versions::slots::length_in(&slots, version) != 0 {
-        return Reply::WrongVersion;
+        return Err(Refusal::WrongVersion);
     }
     let last = versions::slots::is_none_from(&slots, version);
     versions::slots::put_measured(
@@ -70,21 +67,21 @@ pub fn drop_among<'a>(
     store: &[u8],
     version: usize,
     state: &mut [u8],
-) -> Reply
+) -> Result<usize, Refusal>
     requires { OpenedFor true n table.now sets.now cells.now × (length state.old ≡ length store.now) × (length store.now ≤ 16384) }
     ensures { Among (on_held (held n table.now store.now)
-        (drop_among n table.now (length store.now) version)) state.old result state.new }
+        (drop_among n table.now (length store.now) version)) state.old (told result) state.new }
 {
     let mut slots = [0u8; versions::slots::SLOTS];
     let mut part = [0u8; versions::slots::SLOT];
     if !way::is_held(n, table, sets, cells, store, &mut slots, &mut part, state) {
-        return Reply::Graph(GraphFault::Malformed, Side::First);
+        return Err(Refusal::Graph(GraphFault::Malformed, Side::First));
     }
     if version >= versions::slots::VERSIONS {
-        return Reply::WrongVersion;
+        return Err(Refusal::WrongVersion);
     }
     if versions::slots::length_in(&slots, version) == 0 {
-        return Reply::WrongVersion;
+        return Err(Refusal::WrongVersion);
     }
     gathering::parts::put_length(version * versions::slots::SLOT, 0, &mut slots);
     way::go(n, table, sets, cells, &slots, &mut part, state)
@@ -99,9 +96,9 @@ pub fn read_among<'a>(
     store: &[u8],
     version: usize,
     out: &mut [u8],
-) -> Reply
+) -> Result<usize, Refusal>
     requires { OpenedFor true n table.now sets.now cells.now × (length store.now ≤ 16384) }
-    ensures { resulting result out.new ≡ given out.old (on_held (held n table.now store.now) (λ ps. on_present (get_or ps version none) made)) }
+    ensures { resulting (told result) out.new ≡ given out.old (on_held (held n table.now store.now) (λ ps. on_present (get_or ps version none) made)) }
 {
     let mut slots = [0u8; versions::slots::SLOTS];
     let mut part = [0u8; versions::slots::SLOT];
@@ -117,32 +114,31 @@ pub fn read_among<'a>(
         &mut part,
         &mut state[..room],
     ) {
-        return Reply::Graph(GraphFault::Malformed, Side::First);
+        return Err(Refusal::Graph(GraphFault::Malformed, Side::First));
     }
     if version >= versions::slots::VERSIONS {
-        return Reply::WrongVersion;
+        return Err(Refusal::WrongVersion);
     }
     let length = versions::slots::length_in(&slots, version);
     if length == 0 {
-        return Reply::WrongVersion;
+        return Err(Refusal::WrongVersion);
     }
     if out.len() < length {
-        return Reply::NoRoom;
+        return Err(Refusal::NoRoom);
     }
     let start = version * versions::slots::SLOT + 2;
     gathering::parts::copy(&slots[start..start + length], 0, out);
-    Reply::Length(length)
+    Ok(length)
 }
 
 // Writes the record of a program, the second graph.
-fn write_program(n: usize, bytes: &[u8], output: &mut [u8]) -> Reply
+fn write_program(n: usize, bytes: &[u8], output: &mut [u8]) -> Result<usize, Refusal>
     requires { (n ≤ 64) × (length output.old ≡ 4854) }
-    ensures { Programmed n bytes.now result output.new }
+    ensures { Programmed n bytes.now (told result) output.new }
 {
     let mut graph = [0u16; layout::LONGEST];
-    let verdict = record::reading::read(n, bytes, &mut graph);
-    match verdict {
-        Verdict::Refused(fault) => Reply::Graph(fault, Side::Second),
-        Verdict::Accepted => engine::rewriting::of_graph(&graph, output),
+    if let Err(fault) = record::reading::read(n, bytes, &mut graph) {
+        return Err(Refusal::Graph(fault, Side::Second));
     }
+    engine::rewriting::of_graph(&graph, output)
 }

@@ -10,7 +10,8 @@ ghost use Rattle.layout.specs.Layout.{size, row_from, row_end};
 ghost use Rattle.classes.specs.Forest.{Forest};
 ghost use Rattle.cover.specs.Cover.{Grouping, Lying, Owns};
 
-// The word for no owner, where nothing of g lies over a link, and for no place, where no link of a class is met yet.
+// The word for no owner, where nothing of g lies over a link, and for no place, where no link of a class is met yet. A word and no `Option`, which
+// would double the memory that is lent for the owners of the longest graph.
 pub const NONE: u16 = 0xFFFF;
 
 // Notes that a link of g over place j enters z. If place j has no owner, z becomes its owner; else the classes of the owner and of z
@@ -42,14 +43,10 @@ pub fn cover_row<'a>(
     ensures { Grouping s.now g.now map.now (row_end g.now y) owner.new parent.new }
 {
     let u = map[y] as usize;
-    let mut k = g[y + 1] as usize + layout::HEADER;
-    let g_end = g[y + 2] as usize;
-    let mut j = s[u + 1] as usize + layout::HEADER;
+    let mut j = layout::links_from(s, u);
     let s_end = s[u + 2] as usize;
-    while k < g_end {
-        let link = g[k];
-        j = subsume::seek(s, j, s_end, link / layout::SCALE);
-        own(owner, parent, j, link % layout::SCALE);
-        k += 1;
+    for &link in layout::links(g, y) {
+        j = subsume::seek(s, j, s_end, layout::feature(link));
+        own(owner, parent, j, layout::target(link) as u16);
     }
 }

@@ -1,6 +1,6 @@
--- This file is about the label that bytes state at a place: its length and its parts by the bytes there, and the answer of the step that
--- takes it.
-use mathlib.Core.Path.{◌≡◌, refl, sym, ap, ap₂, ◌∙◌}
+-- This file is about the label that bytes state at a place: its length and its parts by the bytes there, and the step that takes
+-- it.
+use mathlib.Core.Path.{◌≡◌, refl, sym, ap, ◌∙◌}
 use mathlib.Core.Bool.{Bool, true, false, cond}
 use mathlib.Core.List.{List}
 use Prim.Native.Nat.{ℕ, ◌+◌, ◌-◌, ◌%◌, ◌≤◌, ◌<◌}
@@ -11,11 +11,8 @@ use lib.ListN.{length, get_or, drop}
 use lib.Seq.{get_or-drop}
 use Rattle.lattice.specs.Label.{Label, plain}
 use Rattle.lattice.specs.Labels.{Known}
-use Rattle.layout.specs.Builder.{unstated}
-use Rattle.decode.specs.declared.rows.LabelStep.TheVariants.{Found, Cut}
 use Rattle.decode.specs.Decode.{is_ranged, label_length, label_of}
-use Rattle.decode.specs.Reader.{label_step}
-use Rattle.decode.proofs.Steps.{ByteTaken}
+use Rattle.decode.specs.Reader.{ByteTaken, LabelTaken}
 
 -- the label with the levels behind its type
 abbrev ranged : List ℕ → Label
@@ -58,31 +55,24 @@ module _ (bytes : List ℕ) (at : ℕ) where
   first-is : get_or rest 0 0 ≡ get_or bytes at 0
   first-is = get_or-drop at bytes 0 0 ∙ ap (λ (k : ℕ). get_or bytes k 0) (add-zero at)
 
-  step_cut : length bytes - at < label_length rest → Cut ≡ label_step bytes at
-  step_cut short = rw (lt-leb (label_length rest) (length bytes - at) short) refl
-
-  step-found : {l : Label} {n : ℕ} → label_of rest ≡ l → label_length rest ≡ n → n ≤ length bytes - at →
-      Found (unstated l) (at + n) ≡ label_step bytes at
-  step-found {l} {n} e f inside =
-      ap₂ (λ (x : Label) (k : ℕ). Found (unstated x) (at + k)) (sym e) (sym f)
-      ∙ sym (ap (λ (b : Bool). cond b (Found (unstated (label_of rest)) (at + label_length rest)) Cut)
-      (le-leb (label_length rest) (length bytes - at) (omega arith)))
+  step-found : {l : Label} {n behind : ℕ} → label_of rest ≡ l → label_length rest ≡ n → n ≤ length bytes - at → behind ≡ at + n →
+      LabelTaken bytes at l behind
+  step-found e f inside g = record { inside = omega arith; label_is = sym e; next-is = omega arith }
 
   -- no byte
-  pub label-ended : length bytes ≤ at → Cut ≡ label_step bytes at
-  label-ended h = step_cut (omega (arith, label-long rest))
+  pub label-ended : length bytes ≤ at → length bytes - at < label_length rest
+  label-ended h = omega (arith, label-long rest)
 
   module _ {b behind : ℕ} (t : ByteTaken bytes at b behind) where
     type-is : get_or rest 0 0 ≡ b
     type-is = first-is ∙ sym t.byte-is
 
     -- a type alone
-    pub label-plain : b < 128 → Found (unstated (plain b)) behind ≡ label_step bytes at
+    pub label-plain : b < 128 → LabelTaken bytes at (plain b) behind
     unfolding label_of label_length
     label-plain h =
-        ap (Found (unstated (plain b))) t.next-is
-        ∙ step-found (ap (λ (c : Bool). cond c (ranged rest) (plain (get_or rest 0 0 % 128))) alone ∙ ap plain (omega (arith, type-is)))
-        (ap (λ (c : Bool). cond c 3 1) alone) (omega (arith, t.inside))
+        step-found (ap (λ (c : Bool). cond c (ranged rest) (plain (get_or rest 0 0 % 128))) alone ∙ ap plain (omega (arith, type-is)))
+        (ap (λ (c : Bool). cond c 3 1) alone) (omega (arith, t.inside)) t.next-is
       where
         alone : is_ranged (get_or rest 0 0) ≡ false
         alone = lt-leb 128 (get_or rest 0 0) (omega (arith, type-is))
@@ -95,19 +85,18 @@ module _ (bytes : List ℕ) (at : ℕ) where
     ranged-length h = ap (λ (c : Bool). cond c 3 1) (has-range h)
 
     -- no byte for a level
-    pub label-unranged : 128 ≤ b → length bytes ≤ at + 2 → Cut ≡ label_step bytes at
-    label-unranged h short = step_cut (omega (arith, ranged-length h))
+    pub label-unranged : 128 ≤ b → length bytes ≤ at + 2 → length bytes - at < label_length rest
+    label-unranged h short = omega (arith, ranged-length h)
 
     -- a type and two levels
     pub label-ranged : {low after high next : ℕ} → 128 ≤ b → b < 256 → ByteTaken bytes behind low after → ByteTaken bytes after high next →
-        Found (unstated (record { type = b - 128; lowest = low; highest = high })) next ≡ label_step bytes at
+        LabelTaken bytes at (record { type = b - 128; lowest = low; highest = high }) next
     unfolding label_of
     label-ranged {low} {high = high} h small l m =
-        ap (Found (unstated (record { type = b - 128; lowest = low; highest = high }))) (omega (arith, t.next-is, l.next-is, m.next-is))
-        ∙ step-found
+        step-found
         (ap (λ (c : Bool). cond c (ranged rest) (plain (get_or rest 0 0 % 128))) (has-range h)
         ∙ (λ i. record { type = type i; lowest = level 1 t.next-is l i; highest = level 2 (omega (arith, t.next-is, l.next-is)) m i }))
-        (ranged-length h) (omega (arith, t.next-is, l.next-is, m.next-is, m.inside))
+        (ranged-length h) (omega (arith, t.next-is, l.next-is, m.next-is, m.inside)) (omega (arith, t.next-is, l.next-is, m.next-is))
       where
         type : get_or rest 0 0 % 128 ≡ b - 128
         type = omega (arith, type-is)

@@ -1,5 +1,4 @@
 -- These files have the laws of decoding.
-pub mod Steps
 pub mod Labels
 pub mod Word
 pub mod Reading

@@ -14,7 +14,7 @@ use lib.Seq.{get_or-drop, drop-drop}
 use Rattle.graphs.specs.Rows.{from}
 use Rattle.lattice.specs.Label.{Label}
 use Rattle.decode.specs.Decode.{Taken, changed, take_target, take_links, label_length, label_of, take_row, take_rows, bit_of, whole, decoded}
-use Rattle.decode.proofs.Steps.{ByteTaken, LabelTaken, MapTaken}
+use Rattle.decode.specs.Reader.{ByteTaken, LabelTaken, MapTaken}
 use Rattle.decode.specs.Word.{word_of, take_word}
 use Rattle.decode.proofs.Word.{word-digit, word-links}
 

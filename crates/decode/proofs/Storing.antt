@@ -4,6 +4,7 @@ use mathlib.Core.Bool.{Bool, true, false, cond}
 use mathlib.Core.List.{List, [], ◌∷◌, ◌++◌, append-nil}
 use mathlib.Core.Option.{Option, none, some, map, bind}
 use Prim.Native.Nat.{ℕ, suc, ◌+◌, ◌-◌, ◌*◌, ◌^◌, ◌≤◌, ◌<◌, min}
+use native.Mathlib.Decide.{dec_lt}
 use native.Mathlib.Numerals.{add-one}
 use native.Mathlib.Omega.{arith}
 use borrow.Author.Tests.{eq-eqb, ne_eqb}
@@ -21,16 +22,15 @@ use Rattle.layout.specs.Layout.{header, longest, label_from, link_word, size, li
 use Rattle.layout.specs.Builder.{Built, Open, Same, put_label}
 use Rattle.layout.proofs.Spans.{links-none}
 use Rattle.layout.proofs.Builder.{same-before, same-trans, label_same, length-put, put-before, label-put, links-put, built-kept, rows-kept, built-begin, row_closes, closed-rows, built-shaped}
-use Rattle.decode.specs.declared.rows.RowEnd.{RowEnd}
-use Rattle.decode.specs.declared.rows.RowEnd.TheVariants.{At, Short}
+use Rattle.std.specs.Prelude.{Option as Answer, Some, None, IsTrue, ◌↔◌}
 use Rattle.decode.specs.Answers.{Parses, Roomy}
 use Rattle.decode.specs.Decode.{Taken, changed, take_target, take_row, take_rows, whole, decoded}
+use Rattle.decode.specs.Reader.{ByteTaken, LabelTaken, MapTaken}
 use Rattle.decode.specs.Storing.{RowsFit, Stored, Took, row_between}
 use Rattle.decode.specs.Word.{take_word}
 use Rattle.decode.proofs.Decoded.{are-bytes, decoded-says, decoded-orderly}
 use Rattle.decode.proofs.Labels.{label-known}
 use Rattle.decode.proofs.Reading.{after, after_none, after_more, no_room, no_bytes, one-target, untaken, row_is, Counted, rows-one, decoded-rows}
-use Rattle.decode.proofs.Steps.{ByteTaken, LabelTaken, MapTaken}
 use Rattle.decode.proofs.Word.{first-digit, word_none}
 
 -- Links.
@@ -152,27 +152,20 @@ module _ {read : Option (Taken (List (ℕ × ℕ)))} {bytes : List ℕ} {start a
 -- What a function that stores answers.
 
 module _ {X : Type 0} {found : List ℕ → ℕ → ℕ → X} {least : ℕ} {read : Option (Taken X)} {bytes : List ℕ} {start at limit : ℕ} {ws ws' : List ℕ} where
-  pub took-none : read ≡ none → Same ws ws' 0 at → length ws' ≡ length ws → Took found least read bytes start at limit ws Short ws'
+  pub took-none : {next : ℕ} → read ≡ none → Same ws ws' 0 at → length ws' ≡ length ws →
+      Took found least read bytes start at limit ws None next ws'
   took-none e before long =
-      record {
-        short-stands = λ q. e;
-        at-stands = λ next end q. absurd (let z : ◌≡◌ {A = ℕ} 0 1 = cc in omega arith);
-        spare = λ next end q. absurd (let z : ◌≡◌ {A = ℕ} 0 1 = cc in omega arith);
-        before = before;
-        long = long;
-      }
+      record { short-stands = λ q. e; at-stands = λ end q. absurd (cc); spare = λ end q. absurd (cc); before = before; long = long }
 
   pub took-all : {next end : ℕ} → at + least ≤ end → end + start ≤ at + next → Stored (found ws' at end) read bytes limit next end →
-      Same ws ws' 0 at → length ws' ≡ length ws → Took found least read bytes start at limit ws (At next end) ws'
+      Same ws ws' 0 at → length ws' ≡ length ws → Took found least read bytes start at limit ws (Some end) next ws'
   took-all {next} {end} low spare s before long =
       record {
-        short-stands = λ q. absurd (let z : ◌≡◌ {A = ℕ} 0 1 = cc in omega arith);
-        at-stands = λ n m q.
-            let d : next ≡ n = cc in
+        short-stands = λ q. absurd (cc);
+        at-stands = λ m q.
             let e : end ≡ m = cc in
-            subst₂ (λ (a b : ℕ). (at + least ≤ b) × Stored (found ws' at b) read bytes limit a b) d e (low, s);
-        spare = λ n m q.
-            let d : next ≡ n = cc in
+            subst (λ (b : ℕ). (at + least ≤ b) × Stored (found ws' at b) read bytes limit next b) e (low, s);
+        spare = λ m q.
             let e : end ≡ m = cc in
             omega arith;
         before = before;
@@ -182,16 +175,16 @@ module _ {X : Type 0} {found : List ℕ → ℕ → ℕ → X} {least : ℕ} {re
 -- A row.
 
 -- the row whose label and map the reader took, and whose links were stored behind its label, or not
-pub row_read : (bytes : List ℕ) (start at limit : ℕ) (ws : List ℕ) {opened : List ℕ} {answer : RowEnd} {ws' : List ℕ} {l : Label}
-    {behind word first : ℕ} → ((i : ℕ) → get_or bytes i 0 < 256) → at + header ≤ length ws → LabelTaken bytes start l behind →
+pub row_read : (bytes : List ℕ) (start at limit : ℕ) (ws : List ℕ) {opened : List ℕ} {answer : Answer ℕ} {ws' : List ℕ} {l : Label}
+    {behind word first next : ℕ} → ((i : ℕ) → get_or bytes i 0 < 256) → at + header ≤ length ws → LabelTaken bytes start l behind →
     MapTaken bytes behind word first → opened ≡ put_label ws at l →
-    Took links_between 0 (take_word 64 0 word (limit - (at + header)) (drop first bytes)) bytes first (at + header) limit opened answer ws' →
-    Took row_between header (take_row (limit - (at + header)) (drop start bytes)) bytes start at limit ws answer ws'
-row_read bytes start at limit ws {opened} {answer} {ws'} {l} {behind} {word} {first} small inside labelled mapped put t =
+    Took links_between 0 (take_word 64 0 word (limit - (at + header)) (drop first bytes)) bytes first (at + header) limit opened answer next ws' →
+    Took row_between header (take_row (limit - (at + header)) (drop start bytes)) bytes start at limit ws answer next ws'
+row_read bytes start at limit ws {opened} {answer} {ws'} {l} {behind} {word} {first} {next} small inside labelled mapped put t =
     record {
       short-stands = λ q. same ∙ ap (map (changed more)) (t.short-stands q);
-      at-stands = λ next end q.
-          let (low, s) = t.at-stands next end q in (
+      at-stands = λ end q.
+          let (low, s) = t.at-stands end q in (
             omega arith,
             record {
               read_is =
@@ -203,7 +196,7 @@ row_read bytes start at limit ws {opened} {answer} {ws'} {l} {behind} {word} {fi
               inside = s.inside;
             },
           );
-      spare = λ next end q. omega (arith, t.spare next end q, labelled.next-is, mapped.next-is);
+      spare = λ end q. omega (arith, t.spare end q, labelled.next-is, mapped.next-is);
       before =
           same-trans ws opened ws' (subst (λ (new : List ℕ). Same ws new 0 at) (sym put) (put-before ws at l 0 at (omega arith)))
           (λ k low high. t.before k low (omega arith));
@@ -301,9 +294,9 @@ module _ {bytes : List ℕ} {nodes room : ℕ} {ws : List ℕ} {at limit next v 
       (take_rows (s.todo - 1) r.room r.rest)) (ap (λ (r : ℕ). take_row r (drop next bytes)) (sym row_room) ∙ e)))
 
   -- one row more
-  pub fill-next : (behind end : ℕ) (answer : RowEnd) (ws' : List ℕ) → nodes ≤ 255 → v < nodes →
-      Took row_between header (take_row (limit + header - (at + header)) (drop next bytes)) bytes next at (limit + header) ws answer ws' →
-      answer ≡ At behind end →
+  pub fill-next : (behind end : ℕ) (answer : Answer ℕ) (ws' : List ℕ) → nodes ≤ 255 → v < nodes →
+      Took row_between header (take_row (limit + header - (at + header)) (drop next bytes)) bytes next at (limit + header) ws answer behind ws' →
+      answer ≡ Some end →
       Filling bytes nodes room (set ws' (v + 2) end) end (limit + header) behind (v + 1)
   unfolding bind
   fill-next behind end answer ws' small h t e =
@@ -327,14 +320,14 @@ module _ {bytes : List ℕ} {nodes room : ℕ} {ws : List ℕ} {at limit next v 
             ∙ t.before 0 (omega arith) (omega (arith, s.built.low))
             ∙ s.sized;
         long = length-set ws' (v + 2) end ∙ t.long ∙ s.long;
-        words = omega (arith, s.words, t.spare behind end e, s.inside, stored.inside);
+        words = omega (arith, s.words, t.spare end e, s.inside, stored.inside);
       }
     where
       rows : List (Row Label)
       rows = rows_from ws 0 v
 
       stored : Stored (row_between ws' at end) (take_row (limit + header - (at + header)) (drop next bytes)) bytes (limit + header) behind end
-      stored = (t.at-stands behind end e).1
+      stored = (t.at-stands end e).1
 
       starts : Same ws ws' 1 (v + 2)
       starts k low high = t.before k (omega arith) (omega (arith, s.built.listed, s.built.low))
@@ -343,8 +336,8 @@ module _ {bytes : List ℕ} {nodes room : ℕ} {ws : List ℕ} {at limit next v 
       row =
           record {
             built = built-kept s.built ws' t.long starts;
-            headed = (t.at-stands behind end e).0;
-            inside = omega (arith, stored.room, fill-room small h, t.long, s.long, s.words, t.spare behind end e, s.inside, stored.inside);
+            headed = (t.at-stands end e).0;
+            inside = omega (arith, stored.room, fill-room small h, t.long, s.long, s.words, t.spare end e, s.inside, stored.inside);
           }
 
       rows_are : rows_from (set ws' (v + 2) end) 0 (v + 1) ≡ rows ++ (row_between ws' at end ∷ [])
@@ -365,14 +358,14 @@ module _ {bytes : List ℕ} {nodes room : ℕ} {ws : List ℕ} {at limit next v 
       ∙ ap (λ (k : ℕ). some (record { value = rows_from ws 0 k; room = limit - at; rest = drop next bytes })) all
 
   -- bytes are left over
-  pub decoded-over : {start : ℕ} → Counted bytes nodes start → nodes ≤ v → next < length bytes → decoded bytes ≡ none
+  decoded-over : {start : ℕ} → Counted bytes nodes start → nodes ≤ v → next < length bytes → decoded bytes ≡ none
   decoded-over n h over =
       decoded-rows bytes nodes n
       ∙ ap whole (rows_all h)
       ∙ untaken (eqb (length (drop next bytes)) 0) (some (rows_of ws)) none
       (ne_eqb (length (drop next bytes)) 0 (λ q. omega (arith, length-drop next bytes)))
 
-  pub parse-all : {start : ℕ} → Counted bytes nodes start → ((i : ℕ) → get_or bytes i 0 < 256) → nodes ≤ v → length bytes ≤ next →
+  parse-all : {start : ℕ} → Counted bytes nodes start → ((i : ℕ) → get_or bytes i 0 < 256) → nodes ≤ v → length bytes ≤ next →
       Parses bytes true ws
   parse-all n small h over =
       record {
@@ -395,3 +388,13 @@ module _ {bytes : List ℕ} {nodes room : ℕ} {ws : List ℕ} {at limit next v 
           ∙ ap whole (rows_all h)
           ∙ ap (λ (b : Bool). cond b (some (rows_of ws)) none)
           (eq-eqb (length (drop next bytes)) 0 (omega (arith, length-drop next bytes)))
+
+  -- whether bytes are left over
+  pub parse-end : {start : ℕ} (answer : Bool) → Counted bytes nodes start → ((i : ℕ) → get_or bytes i 0 < 256) → nodes ≤ v →
+      (IsTrue answer ↔ (length bytes ≤ next)) → Parses bytes answer ws
+  parse-end true n small h ends = parse-all n small h (ends.0 refl)
+  parse-end false n small h ends = parse-none bytes ws (decoded-over n h (over (dec_lt next (length bytes))))
+    where
+      over : Dec (next < length bytes) → next < length bytes
+      over (yes l) = l
+      over (no m) = absurd (let e : false ≡ true = ends.1 (omega arith) in cc)

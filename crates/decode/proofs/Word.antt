@@ -3,18 +3,19 @@ use mathlib.Core.Path.{◌≡◌, refl, sym, ap, ap₂, ◌∙◌, subst}
 use mathlib.Core.Bool.{Bool, cond}
 use mathlib.Core.List.{List, []}
 use mathlib.Core.Option.{some}
-use Prim.Native.Nat.{ℕ, zero, suc, ◌+◌, ◌-◌, ◌*◌, ◌/◌, ◌%◌, ◌^◌, ◌≤◌, ◌<◌}
+use Prim.Native.Nat.{ℕ, zero, suc, ◌+◌, ◌-◌, ◌*◌, ◌/◌, ◌%◌, ◌^◌, ◌<◌}
 use native.Mathlib.Decide.{dec_lt}
-use native.Mathlib.Nat.{add-zero, mod-lt, lt_of_lt_of_le}
+use native.Mathlib.Nat.{add-zero, mod-lt}
 use native.Mathlib.Omega.{arith}
 use borrow.Author.Tests.{eq-eqb}
-use lib.Arith.{lt-one, digits_lt}
+use lib.Arith.{lt-one}
 use lib.Bits.{bit_and, and_step, and_self, block_half, block_odd}
 use lib.Count.{count_trailing_zeros, under}
 use lib.Dec.{eqb}
 use lib.ListN.{get_or, drop}
-use lib.Pow.{shr-shr, shr_lt, high, pow-add, pow_mono}
+use lib.Pow.{shr-shr, shr_lt, high}
 use lib.Seq.{get_or-drop, drop-drop}
+use Rattle.std.specs.Int.{w64, from_le_bytes}
 use Rattle.graphs.specs.Rows.{from}
 use Rattle.lattice.proofs.Bits.{half-shift}
 use Rattle.decode.specs.Decode.{take_target, take_links}
@@ -59,52 +60,11 @@ word-digit (suc k) bytes small f h =
         ∙ ap (λ (x : ℕ). x / 2 ^ ((f - 8) % 8) % 2) (get_or-drop 1 bytes ((f - 8) / 8) 0)
         ∙ ap₂ (λ (i j : ℕ). get_or bytes i 0 / 2 ^ j % 2) (omega arith) (omega arith)
 
--- `map` is the word of the bytes from place i of the eight on.
-pub record Joining (bytes : List ℕ) (at map i : ℕ) : Type 0 where
-  pub joined : ℕ
-  pub up_to : joined + i ≡ 8
-  pub map_is : map ≡ word_of joined (drop (at + i) bytes)
-  pub small : map < 2 ^ (8 * joined)
-
-pub join-begin : (bytes : List ℕ) (at : ℕ) → Joining bytes at 0 8
+-- The number of eight bytes, lowest byte first, is their word.
+pub le_word : (bytes xs : List ℕ) → ((i : ℕ) → i < 8 → get_or xs i 0 ≡ get_or bytes i 0) → from_le_bytes w64 xs ≡ word_of 8 bytes
 unfolding word_of
-join-begin bytes at = record { joined = 0; up_to = refl; map_is = refl; small = omega arith }
-
-module _ {bytes : List ℕ} {at map i : ℕ} (s : Joining bytes at map i) (n : i ≡ 0 → ⊥) (small : get_or bytes (at + (i - 1)) 0 < 256) where
-  join-small : map * 256 + get_or bytes (at + (i - 1)) 0 < 2 ^ (8 * suc s.joined)
-  join-small =
-      subst (λ (x : ℕ). map * 256 + get_or bytes (at + (i - 1)) 0 < x)
-      (sym (pow-add 2 (8 * s.joined) 8) ∙ ap (λ (x : ℕ). 2 ^ x) (omega arith))
-      (digits_lt s.small small)
-
-  pub join-fits : map * 256 + get_or bytes (at + (i - 1)) 0 < 2 ^ 64
-  join-fits =
-      let h : 8 * suc s.joined ≤ 64 = omega (arith, s.up_to) in
-      lt_of_lt_of_le join-small (pow_mono h)
-
-  join_step : Joining bytes at (map * 256 + get_or bytes (at + (i - 1)) 0) (i - 1)
-  unfolding word_of
-  join_step =
-      let place : at + i ≡ at + (i - 1) + 1 = omega arith in
-      record {
-        joined = suc s.joined;
-        up_to = omega (arith, s.up_to);
-        map_is =
-            ap₂ (λ (x y : ℕ). x * 256 + y)
-            (s.map_is ∙ ap (λ (k : ℕ). word_of s.joined (drop k bytes)) place ∙ ap (word_of s.joined)
-            (sym (drop-drop 1 (at + (i - 1)) bytes)))
-            (ap (λ (k : ℕ). get_or bytes k 0) (sym (add-zero (at + (i - 1)))) ∙ sym (get_or-drop (at + (i - 1)) bytes 0 0));
-        small = join-small;
-      }
-
-  pub join-next : (b : ℕ) → b ≡ get_or bytes (at + (i - 1)) 0 → Joining bytes at (map * 256 + b) (i - 1)
-  join-next b e = subst (λ (x : ℕ). Joining bytes at (map * 256 + x) (i - 1)) (sym e) join_step
-
-pub join-end : {bytes : List ℕ} {at map i : ℕ} → Joining bytes at map i → i ≡ 0 → map ≡ word_of 8 (drop at bytes)
-join-end {bytes} {at} {i = i} s e =
-    let all : s.joined ≡ 8 = omega (arith, s.up_to) in
-    let start : at + i ≡ at = omega arith in
-    s.map_is ∙ ap₂ (λ (k j : ℕ). word_of k (drop j bytes)) all start
+le_word bytes xs same =
+    simp (get_or-drop, drop-drop) (omega (arith, same 0, same 1, same 2, same 3, same 4, same 5, same 6, same 7))
 
 -- ---- links by the digits of a word
 

@@ -1,37 +1,82 @@
-// The reader of a record keeps the record's bytes and the position of the next byte together. The reader takes a byte or a feature map and
-// tells the position behind it. Parsing calls the last two functions, whose parameters are plain: each makes the reader at a
-// position and leaves the work to it.
+// The reader of a record keeps the record's bytes and the position of the next byte together. The reader takes a byte, a feature map or a
+// label and moves behind it. One reader walks over the whole record.
 
-ghost use Rattle.std.specs.Prelude.{◌+◌, ◌≤◌, drop, length, ◌≡◌};
+ghost use Rattle.std.specs.Prelude.{ℕ, ◌+◌, ◌<◌, ◌≤◌, ◌≡◌, ◌↔◌, IsTrue, drop, length, slice_index};
 ghost use Rattle.decode.specs.Word.{word_of};
-ghost use Rattle.decode.specs.Reader.{byte_step, map_step};
+ghost use Rattle.decode.specs.Reader.{ByteStep, LabelStep, MapStep};
 
-// A record's bytes and the position of the next byte.
-#[derive(Clone, Copy)]
+use layout::Label;
+
+// A record's bytes and the position of the next byte, which is the end where no byte is left.
+#[derive(Drop)]
 pub struct Reader<'a> {
-    pub bytes: &'a [u8],
-    pub next: usize,
+    bytes: &'a [u8],
+    next: usize,
+    ghost inside: { next ≤ length bytes.now },
+    ghost small: { (i : ℕ) → slice_index bytes.now i < 256 },
 }
 
-// The next byte and the position behind it; or the record ends.
-#[derive(Clone, Copy)]
-pub enum Step {
-    Byte(u8, usize),
-    End,
-}
+impl<'a> Reader<'a> {
+    // A reader at the first byte.
+    pub fn new(bytes: &'a [u8]) -> Self
+        ensures same { result.bytes.now ≡ bytes.now }
+        ensures start { result.next ≡ 0 }
+    {
+        Reader { bytes, next: 0 }
+    }
 
-// The next eight bytes as a feature map, and the position behind them; or the record ends.
-#[derive(Clone, Copy)]
-pub enum MapStep {
-    Map(u64, usize),
-    Cut,
-}
+    // Whether no byte is left.
+    pub fn is_at_end(&self) -> bool
+        ensures { IsTrue result ↔ (length self.now.bytes.now ≤ self.now.next) }
+    {
+        self.bytes.len() <= self.next
+    }
 
-// The byte as a number of 64 bits.
-fn wide(x: u8) -> u64
-    ensures { result ≡ x }
-{
-    x as u64
+    // Takes the next byte, or tells that the record ends.
+    pub fn byte(&mut self) -> Option<u8>
+        ensures same { self.new.bytes.now ≡ self.old.bytes.now }
+        ensures step { ByteStep self.old.bytes.now self.old.next result self.new.next }
+    {
+        let byte = *self.bytes.get(self.next)?;
+        self.next += 1;
+        Some(byte)
+    }
+
+    // Takes the next eight bytes as a feature map, or tells that fewer are left.
+    pub fn map(&mut self) -> Option<u64>
+        ensures same { self.new.bytes.now ≡ self.old.bytes.now }
+        ensures step { MapStep self.old.bytes.now self.old.next result self.new.next }
+    {
+        if self.bytes.len() - self.next < 8 {
+            return None;
+        }
+        let map = map_at(self.bytes, self.next);
+        self.next += 8;
+        Some(map)
+    }
+
+    // Takes a label: the type, and where its bit 7 is set the lowest and the highest level; or tells that the record ends before the label
+    // does.
+    pub fn label(&mut self) -> Option<Label>
+        ensures same { self.new.bytes.now ≡ self.old.bytes.now }
+        ensures step { LabelStep self.old.bytes.now self.old.next result self.new.next }
+    {
+        let kind = self.byte()?;
+        if kind < 128 {
+            return Some(Label {
+                kind,
+                lowest: 0,
+                highest: 255,
+            });
+        }
+        let lowest = self.byte()?;
+        let highest = self.byte()?;
+        Some(Label {
+            kind: kind - 128,
+            lowest,
+            highest,
+        })
+    }
 }
 
 // The feature map at a place, bit f for feature f.
@@ -39,62 +84,5 @@ fn map_at(bytes: &[u8], at: usize) -> u64
     requires { at + 8 ≤ length bytes.now }
     ensures { result ≡ word_of 8 (drop at bytes.now) }
 {
-    let mut map: u64 = 0;
-    let mut i: usize = 8;
-    while i != 0 {
-        i -= 1;
-        map = map * 256 + wide(bytes[at + i]);
-    }
-    map
-}
-
-// The byte at a place, or the end.
-fn byte_at(bytes: &[u8], at: usize) -> Step
-    ensures { result ≡ byte_step bytes.now at }
-{
-    if bytes.len() <= at {
-        return Step::End;
-    }
-    Step::Byte(bytes[at], at + 1)
-}
-
-// The feature map at a place, or `Cut` where fewer than eight bytes are left.
-fn whole_map_at(bytes: &[u8], at: usize) -> MapStep
-    ensures { result ≡ map_step bytes.now at }
-{
-    if bytes.len() <= at {
-        return MapStep::Cut;
-    }
-    if bytes.len() - at < 8 {
-        return MapStep::Cut;
-    }
-    MapStep::Map(map_at(bytes, at), at + 8)
-}
-
-// Takes the next byte.
-fn byte<'a>(r: Reader<'a>) -> Step
-    ensures { result ≡ byte_step r.entry.bytes.now r.entry.next }
-{
-    byte_at(r.bytes, r.next)
-}
-
-// Takes the next feature map.
-fn map<'a>(r: Reader<'a>) -> MapStep
-    ensures { result ≡ map_step r.entry.bytes.now r.entry.next }
-{
-    whole_map_at(r.bytes, r.next)
-}
-
-// The byte that the reader takes at a position.
-pub fn byte_from(bytes: &[u8], at: usize) -> Step
-    ensures { result ≡ byte_step bytes.now at }
-{
-    byte(Reader { bytes, next: at })
-}
-
-// The feature map that the reader takes at a position.
-pub fn map_from(bytes: &[u8], at: usize) -> MapStep
-    ensures { result ≡ map_step bytes.now at }
-{
-    map(Reader { bytes, next: at })
+    u64::from_le_bytes(bytes[at..at + 8].try_into().unwrap())
 }

@@ -8,13 +8,13 @@ use lib.ListN.{take}
 use Rattle.graphs.specs.Graph.{Below}
 use Rattle.graphs.specs.Rows.{Row}
 use Rattle.lattice.specs.Label.{Label}
-use Rattle.acceptance.specs.declared.Opened.TheVariants.{Accepted}
+use Rattle.std.specs.Prelude.{Ok}
 use Rattle.acceptance.specs.Reply.{opened}
 use Rattle.lattice.specs.Labels.{table_labels, OfAnySize}
 use Rattle.lattice.proofs.AnySize.{below-broader, greatest-monotone, least-monotone}
 use Rattle.record.specs.Read.{reading, accepted, graph_of_rows}
 use Rattle.record.proofs.Theorems.{accepted-of-any-size}
-use Rattle.replies.specs.declared.Reply.TheVariants.{Length, Cycle, Clash}
+use Rattle.replies.specs.Replies.{Length, Cycle, Clash}
 use Rattle.calls.specs.Calls.{generalizing, unifying}
 use Rattle.demands.specs.Demand.{Given, AnswersBelow}
 use Rattle.demands.proofs.Demanded.Order.{order-exact, below-given}
@@ -34,7 +34,7 @@ module _ (n : ℕ) (t x y : List ℕ) where
       let (s, g, given) = below-given n t x y q in
       record { lower = s; upper = g; given = given; below = (order-exact n t x y s g given).0.0 q }
 
-  pub rows-below : (s g : List (Row Label)) → opened n t ≡ Accepted → reading n x ≡ accepted s → reading n y ≡ accepted g →
+  pub rows-below : (s g : List (Row Label)) → opened n t ≡ Ok tt → reading n x ≡ accepted s → reading n y ≡ accepted g →
       Below (table_labels n t) (graph_of_rows s) (graph_of_rows g) → RecordBelow n t x y
   rows-below s g opens i j below =
       record { lower = s; upper = g; given = record { opens = opens; first = i; second = j }; below = below }

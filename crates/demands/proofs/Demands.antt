@@ -19,7 +19,7 @@ use Rattle.graphs.specs.Relations.{Into, LiesOver, Grouped, KeptLink}
 use Rattle.graphs.specs.OfRows.{same_pair}
 use Rattle.graphs.proofs.Difference.ByNumber.{by-number-order}
 use Rattle.lattice.specs.Label.{Label}
-use Rattle.acceptance.specs.declared.Opened.TheVariants.{Accepted}
+use Rattle.std.specs.Prelude.{Ok}
 use Rattle.lattice.specs.Table.{admits}
 use Rattle.acceptance.specs.Reply.{opened}
 use Rattle.lattice.specs.Labels.{table_labels, OfAnySize, LeastOfAnySize, GreatestOfAnySize, IsCombination, LabelClash, WantedAt}
@@ -27,7 +27,7 @@ use Rattle.acceptance.proofs.Acceptance.{opened-accepted}
 use Rattle.lattice.proofs.AnySize.{combination-greatest}
 use Rattle.encode.specs.Encode.{fitted}
 use Rattle.record.specs.Read.{reading, accepted, graph_of_rows}
-use Rattle.replies.specs.declared.Reply.TheVariants.{Length, Same, Cycle, Clash, TooLarge, NotBelow, NoWantedType}
+use Rattle.replies.specs.Replies.{Length, Same, Cycle, Clash, TooLarge, NotBelow, NoWantedType}
 use Rattle.replies.specs.Reply.{Result, result_of}
 use Rattle.difference.specs.Difference.{over}
 use Rattle.calls.specs.Calls.{rewriting, ordering, generalizing, unifying, differing}
@@ -99,7 +99,7 @@ module _ (n : ℕ) (t out : List ℕ) where
   -- 8 to 13 are answered only over an accepted table and accepted graphs: "A table is accepted when none of 1 to 3 applies to it, a graph when
   -- none of 4 to 7 does." So demand 3, which is about accepted records, covers every such reply.
   pub rewriting-accepted : (a : List ℕ) → RefusedAfterReading (rewriting n t a out).reply →
-      (opened n t ≡ Accepted) × ((rows : List (Row Label)) × (reading n a ≡ accepted rows))
+      (opened n t ≡ Ok tt) × ((rows : List (Row Label)) × (reading n a ≡ accepted rows))
   rewriting-accepted a = After.rewriting-accepted n t out a
 
   pub generalizing-accepted : (a b : List ℕ) → RefusedAfterReading (generalizing n t a b out).reply → BothAccepted n t a b
@@ -115,7 +115,7 @@ module _ (n : ℕ) (t out : List ℕ) where
 
 -- A graph has no record exactly where it is too large. A graph's record means the same as the graph, and graphs have the same record exactly
 -- where they mean the same.
-module _ (n : ℕ) (t : List ℕ) (opens : opened n t ≡ Accepted) {C : Type 0} (same : C → C → Bool) (tells : TellsApart same) (k : Graph Label C)
+module _ (n : ℕ) (t : List ℕ) (opens : opened n t ≡ Ok tt) {C : Type 0} (same : C → C → Bool) (tells : TellsApart same) (k : Graph Label C)
     (size : OfAnySize n t k) where
   pub record-none : (record_of same k ≡ none) ↔ Large k
   record-none = Recorded.record-none n t opens same tells k size
@@ -129,7 +129,7 @@ module _ (n : ℕ) (t : List ℕ) (opens : opened n t ≡ Accepted) {C : Type 0}
     record-of-meaning = Recorded.record-exact n t opens same tells k size bytes is
 
 -- Rewriting an accepted record writes the record of its graph.
-module _ (n : ℕ) (t a : List ℕ) (rows : List (Row Label)) (opens : opened n t ≡ Accepted) (reads : reading n a ≡ accepted rows) (out : List ℕ) where
+module _ (n : ℕ) (t a : List ℕ) (rows : List (Row Label)) (opens : opened n t ≡ Ok tt) (reads : reading n a ≡ accepted rows) (out : List ℕ) where
   pub rewriting-written : rewriting n t a out ≡ writing (record_of eqb (graph_of_rows rows)) out
   rewriting-written = rewriting-is n t a rows opens reads out ∙ result-record eqb (graph_of_rows rows) out
 
@@ -157,7 +157,7 @@ module _ (n : ℕ) (t a b : List ℕ) (s g : List (Row Label)) (given : Given n 
 module _ (n : ℕ) (t a : List ℕ) (one : WrittenRecord n a) where
   -- Over an accepted table, rewriting a written record gives its own bytes and leaves the other bytes of the output unchanged, or gives 8 where
   -- the output is shorter.
-  pub written-own-bytes : opened n t ≡ Accepted → (out : List ℕ) → rewriting n t a out ≡ result_of (fitted a out)
+  pub written-own-bytes : opened n t ≡ Ok tt → (out : List ℕ) → rewriting n t a out ≡ result_of (fitted a out)
   written-own-bytes = Meaning.own-bytes n t a one
 
   -- Two written records mean the same exactly when they are equal bytes.
@@ -209,7 +209,7 @@ module _ (n : ℕ) (t a b : List ℕ) (g h : List (Row Label)) (given : Given n 
 
 -- "order and combination of such graphs go by the same rules, over paths": for graphs of any size, what the classes of paths give is the greatest
 -- graph of any size below both.
-pub combination-over-paths : (n : ℕ) (t : List ℕ) → opened n t ≡ Accepted → {A B C : Type 0} (g : Graph Label A) (h : Graph Label B) (u : Graph Label C) →
+pub combination-over-paths : (n : ℕ) (t : List ℕ) → opened n t ≡ Ok tt → {A B C : Type 0} (g : Graph Label A) (h : Graph Label B) (u : Graph Label C) →
     OfAnySize n t g → OfAnySize n t h → OfAnySize n t u → IsCombination n t g h u → GreatestOfAnySize n t g h u
 combination-over-paths n t opens g h u a b =
     combination-greatest n t (opened-accepted n t (opened n t) refl opens) g h a b u

@@ -14,8 +14,8 @@ use Rattle.graphs.proofs.Difference.ByReading.{by-reading-order}
 use Rattle.lattice.specs.Label.{Label}
 use Rattle.lattice.specs.Labels.{GreatestOfAnySize}
 use Rattle.record.specs.Read.{graph_of_rows}
-use Rattle.replies.specs.declared.Reply.{Reply}
-use Rattle.replies.specs.declared.Reply.TheVariants.{TooLarge}
+use Rattle.replies.specs.Replies.{Reply}
+use Rattle.replies.specs.Replies.{TooLarge}
 use Rattle.replies.specs.Reply.{Result, refusing}
 use Rattle.engine.specs.Rewriting.{rewritten}
 use Rattle.engine.specs.Generalizing.{generalized}

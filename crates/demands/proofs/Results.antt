@@ -11,24 +11,24 @@ use borrow.Author.Tests.{leb-true, leb-false}
 use lib.Dec.{leb, eqb}
 use lib.ListN.{length, take, drop}
 use lib.Seq.{take-append_seam, drop-append_seam}
+use Rattle.std.specs.Prelude.{Ok, Err}
 use Rattle.graphs.specs.Graph.{Graph, TellsApart, Reached, SameMeaning}
 use Rattle.graphs.specs.Rows.{Row}
 use Rattle.graphs.specs.Number.{Canonical, canonical, many_nodes, many_links, written}
 use Rattle.graphs.proofs.Form.Large.{canonical-many-nodes, canonical-many-links, canonical-fits}
 use Rattle.lattice.specs.Label.{Label}
-use Rattle.acceptance.specs.declared.Opened.TheVariants.{Accepted}
 use Rattle.lattice.specs.Table as table
 use Rattle.acceptance.specs.Reply.{opened}
 use Rattle.lattice.proofs.Laws.{accepted-size}
 use Rattle.lattice.specs.Labels.{table_labels, OfAnySize}
 use Rattle.encoder.specs.Encode.{encoded}
-use Rattle.encode.specs.declared.Written.TheVariants as outcome
+use Rattle.encode.specs.declared.Unwritten.TheVariants as unwritten
 use Rattle.encode.specs.Encode.{fitted, written_out}
 use Rattle.record.specs.Read.{reading, accepted, graph_of_rows}
 use Rattle.record.proofs.Rewritten.{written-injective}
 use Rattle.record.proofs.Theorems.{written-reads}
-use Rattle.replies.specs.declared.Reply.{Reply}
-use Rattle.replies.specs.declared.Reply.TheVariants.{Length, NoRoom, TooLarge}
+use Rattle.replies.specs.Replies.{Reply}
+use Rattle.replies.specs.Replies.{Length, NoRoom, TooLarge}
 use Rattle.replies.specs.Reply.{Result, refusing, result_of}
 use Rattle.calls.specs.Calls.{rewriting}
 use Rattle.demands.specs.Demand.{Large, form_bytes, record_of, writing}
@@ -89,7 +89,7 @@ record-form same k bytes = go (canonical same k)
     go (written form) e = (form, refl, cc)
 
 -- rewriting an accepted record writes its graph
-pub rewriting-is : (n : ℕ) (t bytes : List ℕ) (rows : List (Row Label)) → opened n t ≡ Accepted → reading n bytes ≡ accepted rows → (out : List ℕ) →
+pub rewriting-is : (n : ℕ) (t bytes : List ℕ) (rows : List (Row Label)) → opened n t ≡ Ok tt → reading n bytes ≡ accepted rows → (out : List ℕ) →
     rewriting n t bytes out ≡ result_for eqb (graph_of_rows rows) out
 unfolding rewriting
 rewriting-is n t bytes rows opens reads out = rw (opens, reads)
@@ -121,8 +121,8 @@ module _ (n : ℕ) (t : List ℕ) {C : Type 0} (same : C → C → Bool) (tells 
           Told same k out
           (result_of
           (cond b
-          (record { answer = outcome.Length (length (encoded form)); output = encoded form ++ drop (length (encoded form)) out })
-          (record { answer = outcome.NoRoom; output = out })))
+          (record { answer = Ok (length (encoded form)); output = encoded form ++ drop (length (encoded form)) out })
+          (record { answer = Err unwritten.NoRoom; output = out })))
       room form e true h = held form e (leb-true (length (encoded form)) (length out) h)
       room form e false h = short form e (leb-false (length (encoded form)) (length out) h)
 

@@ -47,8 +47,8 @@ use Rattle.record.proofs.Unranged.{reading-unranged, reading-plain, written-unra
 use Rattle.generalize.proofs.Sides.{tells-pair}
 use Rattle.difference.specs.Promise.{wanted_along, all_wanted_along, difference_along}
 use Rattle.replies.specs.declared.Side.{Side}
-use Rattle.replies.specs.declared.Reply.{Reply}
-use Rattle.replies.specs.declared.Reply.TheVariants.{Table, Graph as Refusal, Cycle, Clash, NotBelow, NoWantedType}
+use Rattle.replies.specs.Replies.{Reply}
+use Rattle.replies.specs.Replies.{Table, Graph as Refusal, Cycle, Clash, NotBelow, NoWantedType}
 use Rattle.replies.specs.Reply.{refusal, result_of, refusing}
 use Rattle.subsume.specs.Promise.{rows_below}
 use Rattle.calls.specs.Calls.{checked, rewriting, ordering, generalizing, unifying, differing}

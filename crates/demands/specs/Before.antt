@@ -14,7 +14,7 @@ use Rattle.acceptance.specs.Reply.{opened}
 use Rattle.lattice.specs.Labels.{table_labels, wanted_range}
 use Rattle.encode.specs.Encode.{written_out}
 use Rattle.record.specs.Read.{graph_of_rows, reading}
-use Rattle.replies.specs.declared.Reply.TheVariants.{NotBelow, NoWantedType}
+use Rattle.replies.specs.Replies.{NotBelow, NoWantedType}
 use Rattle.replies.specs.Reply.{Result, result_of, refusing}
 use Rattle.subsume.specs.Promise.{rows_below}
 use Rattle.calls.specs.Calls.{checked}

@@ -1,7 +1,7 @@
 -- Definitions for the theorems on the three demands, over an accepted table and accepted records: what a call leaves in its output, how a graph
 -- is written, and which graph a common part, a combination or a difference is among all graphs of any size. n and t are the table, a and b the
 -- records.
-use Rattle.std.specs.Prelude.{◌≡◌, Bool, false, List, ◌∷◌, ◌⊎◌, ℕ, ◌-◌, ◌≤◌, eqb, length, take, drop, replicate}
+use Rattle.std.specs.Prelude.{◌≡◌, Bool, false, List, ◌∷◌, ◌⊎◌, ℕ, ◌-◌, ◌≤◌, eqb, length, take, drop, replicate, Ok}
 use Rattle.std.proofs.Math.Option.{Option, none, some}
 use Rattle.graphs.specs.Graph.{Graph, TellsApart, Below, SameMeaning}
 use Rattle.graphs.specs.Rows.{Row}
@@ -10,21 +10,20 @@ use Rattle.graphs.specs.Large.{ManyNodes, ManyLinks}
 use Rattle.graphs.specs.Generalize.{IsGeneralization, generalization_by}
 use Rattle.graphs.specs.Difference.{Link}
 use Rattle.lattice.specs.Label.{Label}
-use Rattle.acceptance.specs.declared.Opened.TheVariants.{Accepted}
 use Rattle.acceptance.specs.Reply.{opened}
 use Rattle.lattice.specs.Labels.{table_labels, OfAnySize, LeastOfAnySize, GreatestOfAnySize, IsCombination, WantedAt}
 use Rattle.encoder.specs.Encode.{encoded}
 use Rattle.encode.specs.Encode.{fitted}
 use Rattle.record.specs.Read.{reading, accepted, graph_of_rows}
-use Rattle.replies.specs.declared.Reply.{Reply}
-use Rattle.replies.specs.declared.Reply.TheVariants.{Length, Same, Under, Above, Neither, TooLarge}
+use Rattle.replies.specs.Replies.{Reply}
+use Rattle.replies.specs.Replies.{Length, Same, Under, Above, Neither, TooLarge}
 use Rattle.replies.specs.Reply.{Result, refusal, refusing, result_of}
 use Rattle.calls.specs.Calls.{ordering, rewriting, unifying}
 use Rattle.difference.specs.Difference.{numbered, difference_rows}
 
 -- An accepted table, and two accepted records with their rows.
 pub record Given (n : ℕ) (t a b : List ℕ) (s g : List (Row Label)) : Type 0 where
-  pub opens : opened n t ≡ Accepted
+  pub opens : opened n t ≡ Ok tt
   pub first : reading n a ≡ accepted s
   pub second : reading n b ≡ accepted g
 

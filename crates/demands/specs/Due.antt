@@ -2,7 +2,7 @@
 -- and the table; bytes, a and b are the records that are handed in; room is the number of bytes that are lent for the record. The cases of each
 -- type stand in the order of the checks: "1, 2, 3; first graph 4 to 7; second graph 4 to 7; then 13, 12, 9, 10, 11, 8", where Paper 6 has 13
 -- "checked after 12".
-use Rattle.std.specs.Prelude.{◌≡◌, Bool, true, List, [], ◌⊎◌, ℕ, ◌≤◌, ◌<◌, length, get_or}
+use Rattle.std.specs.Prelude.{◌≡◌, Bool, true, List, [], ◌⊎◌, ℕ, ◌≤◌, ◌<◌, length, get_or, Ok, Err}
 use Rattle.graphs.specs.Graph.{Graph, Below}
 use Rattle.graphs.specs.Rows.{Row}
 use Rattle.graphs.specs.Large.{links_in}
@@ -11,7 +11,6 @@ use Rattle.graphs.specs.Difference.{Link, by_number, by_reading}
 use Rattle.lattice.specs.Label.{Label}
 use Rattle.lattice.specs.Labels.{table_labels, OfAnySize, IsCombination, LabelClash}
 use Rattle.acceptance.specs.declared.TableFault.{TableFault}
-use Rattle.acceptance.specs.declared.Opened.TheVariants.{Accepted, Refused}
 use Rattle.acceptance.specs.Reply.{opened}
 use Rattle.record.specs.declared.GraphFault.{GraphFault}
 use Rattle.record.specs.declared.GraphFault.TheVariants.{Inappropriate}
@@ -20,8 +19,8 @@ use Rattle.record.specs.Appropriate.{Appropriate}
 use Rattle.link_orders.specs.LinkOrders.{EachOnce}
 use Rattle.listed.specs.Listing.{precedes, Listed, LeastAbove}
 use Rattle.replies.specs.declared.Side.TheVariants.{First, Second}
-use Rattle.replies.specs.declared.Reply.{Reply}
-use Rattle.replies.specs.declared.Reply.TheVariants.{Length, Same, Under, Above, Neither, Table, Graph as OfGraph, NoRoom, Cycle, Clash, TooLarge, NotBelow, NoWantedType, TypeList, ReadingOrder, NoReasonRoom, FeatureCount, NotListed, End}
+use Rattle.replies.specs.Replies.{Reply}
+use Rattle.replies.specs.Replies.{Length, Same, Under, Above, Neither, Table, Graph as OfGraph, NoRoom, Cycle, Clash, TooLarge, NotBelow, NoWantedType, TypeList, ReadingOrder, NoReasonRoom, FeatureCount, NotListed, End}
 use Rattle.demands.specs.Demand.{Given, RecordOf, Large, common, remainder}
 use Rattle.demands.specs.Wanted.{SomeUnwanted}
 use Rattle.demands.specs.Appropriate.{Breaks, Fits}
@@ -106,26 +105,26 @@ module _ (n : ℕ) (t : List ℕ) where
   -- The replies for a table alone.
   pub data CheckDue : Reply → Type 0 where
     -- 1 to 3
-    table : (fault : TableFault) → opened n t ≡ Refused fault → CheckDue (Table fault)
+    table : (fault : TableFault) → opened n t ≡ Err fault → CheckDue (Table fault)
     -- "A table is accepted when none of 1 to 3 applies to it."
-    passes : opened n t ≡ Accepted → CheckDue (Length 0)
+    passes : opened n t ≡ Ok tt → CheckDue (Length 0)
 
   -- The replies of a call with one record.
   pub data LoneDue (bytes : List ℕ) (Then : List (Row Label) → Reply → Type 0) : Reply → Type 0 where
     -- 1 to 3
-    table : (fault : TableFault) → opened n t ≡ Refused fault → LoneDue bytes Then (Table fault)
+    table : (fault : TableFault) → opened n t ≡ Err fault → LoneDue bytes Then (Table fault)
     -- 4 to 7: "A lone graph counts as the first."
-    graph : (fault : GraphFault) → opened n t ≡ Accepted → reading n bytes ≡ refused fault → LoneDue bytes Then (OfGraph fault First)
-    one : {r : Reply} (rows : List (Row Label)) → opened n t ≡ Accepted → reading n bytes ≡ accepted rows → Then rows r → LoneDue bytes Then r
+    graph : (fault : GraphFault) → opened n t ≡ Ok tt → reading n bytes ≡ refused fault → LoneDue bytes Then (OfGraph fault First)
+    one : {r : Reply} (rows : List (Row Label)) → opened n t ≡ Ok tt → reading n bytes ≡ accepted rows → Then rows r → LoneDue bytes Then r
 
   -- The replies of a call with two records.
   pub data PairDue (a b : List ℕ) (Then : List (Row Label) → List (Row Label) → Reply → Type 0) : Reply → Type 0 where
     -- 1 to 3
-    table : (fault : TableFault) → opened n t ≡ Refused fault → PairDue a b Then (Table fault)
+    table : (fault : TableFault) → opened n t ≡ Err fault → PairDue a b Then (Table fault)
     -- "first graph 4 to 7"
-    first : (fault : GraphFault) → opened n t ≡ Accepted → reading n a ≡ refused fault → PairDue a b Then (OfGraph fault First)
+    first : (fault : GraphFault) → opened n t ≡ Ok tt → reading n a ≡ refused fault → PairDue a b Then (OfGraph fault First)
     -- "second graph 4 to 7"
-    second : (rows : List (Row Label)) (fault : GraphFault) → opened n t ≡ Accepted → reading n a ≡ accepted rows → reading n b ≡ refused fault →
+    second : (rows : List (Row Label)) (fault : GraphFault) → opened n t ≡ Ok tt → reading n a ≡ accepted rows → reading n b ≡ refused fault →
         PairDue a b Then (OfGraph fault Second)
     both : {r : Reply} (s g : List (Row Label)) → Given n t a b s g → Then s g r → PairDue a b Then r
 
@@ -163,7 +162,7 @@ module _ (n : ℕ) (t list : List ℕ) where
 
   -- The table and the list are accepted.
   pub record Listing : Type 0 where
-    pub opens : opened n t ≡ Accepted
+    pub opens : opened n t ≡ Ok tt
     pub listed : TypesListed
 
   -- A graph's 4 to 7, and 18 "straight after that graph's 7".
@@ -174,9 +173,9 @@ module _ (n : ℕ) (t list : List ℕ) where
   -- The replies of a call with one record and a list.
   pub data LoneListedDue (bytes : List ℕ) (Then : List (Row Label) → Reply → Type 0) : Reply → Type 0 where
     -- 1 to 3
-    table : (fault : TableFault) → opened n t ≡ Refused fault → LoneListedDue bytes Then (Table fault)
+    table : (fault : TableFault) → opened n t ≡ Err fault → LoneListedDue bytes Then (Table fault)
     -- 17: "A list entry of n or more, or a list not of 64 bytes, is 17, after the table".
-    types : opened n t ≡ Accepted → (TypesListed → ⊥) → LoneListedDue bytes Then TypeList
+    types : opened n t ≡ Ok tt → (TypesListed → ⊥) → LoneListedDue bytes Then TypeList
     -- 4 to 7, 18
     graph : (fault : GraphFault) → Listing → GraphDue bytes fault → LoneListedDue bytes Then (OfGraph fault First)
     one : {r : Reply} (rows : List (Row Label)) → Listing → reading n bytes ≡ accepted rows → Appropriate t list (graph_of_rows rows) → Then rows r →
@@ -185,9 +184,9 @@ module _ (n : ℕ) (t list : List ℕ) where
   -- The replies of a call with two records and a list.
   pub data PairListedDue (a b : List ℕ) (Then : List (Row Label) → List (Row Label) → Reply → Type 0) : Reply → Type 0 where
     -- 1 to 3
-    table : (fault : TableFault) → opened n t ≡ Refused fault → PairListedDue a b Then (Table fault)
+    table : (fault : TableFault) → opened n t ≡ Err fault → PairListedDue a b Then (Table fault)
     -- 17
-    types : opened n t ≡ Accepted → (TypesListed → ⊥) → PairListedDue a b Then TypeList
+    types : opened n t ≡ Ok tt → (TypesListed → ⊥) → PairListedDue a b Then TypeList
     -- the first graph's 4 to 7, 18
     first : (fault : GraphFault) → Listing → GraphDue a fault → PairListedDue a b Then (OfGraph fault First)
     -- the second graph's 4 to 7, 18
@@ -213,10 +212,10 @@ module _ (n : ℕ) (t list : List ℕ) where
   -- The replies of a call with two records and a list of features. `Rest` gives the replies of the call once the list is accepted.
   pub data ByListDue (Rest : Reply → Type 0) : Reply → Type 0 where
     -- 1 to 3
-    table : (fault : TableFault) → opened n t ≡ Refused fault → ByListDue Rest (Table fault)
+    table : (fault : TableFault) → opened n t ≡ Err fault → ByListDue Rest (Table fault)
     -- 19: "A list that is anything else is 19, after the table."
-    order : opened n t ≡ Accepted → (EachOnce list → ⊥) → ByListDue Rest ReadingOrder
-    rest : {r : Reply} → opened n t ≡ Accepted → EachOnce list → Rest r → ByListDue Rest r
+    order : opened n t ≡ Ok tt → (EachOnce list → ⊥) → ByListDue Rest ReadingOrder
+    rest : {r : Reply} → opened n t ≡ Ok tt → EachOnce list → Rest r → ByListDue Rest r
 
   -- Difference by a reading order: 1 to 3, 19, first and second 4 to 7, 12, 13, 8.
   abbrev pub DifferenceByDue : List ℕ → List ℕ → ℕ → Reply → Type 0
@@ -231,20 +230,20 @@ module _ (n : ℕ) (t list : List ℕ) where
 module _ (n : ℕ) (t : List ℕ) (F : ℕ) (bytes : List ℕ) where
   -- The table is accepted and F is 1 or 2, and the call has "no record, that is one of no bytes", or a listed one.
   pub record Stepping : Type 0 where
-    pub opens : opened n t ≡ Accepted
+    pub opens : opened n t ≡ Ok tt
     pub features : (F ≡ 1) ⊎ (F ≡ 2)
     pub begun : (bytes ≡ []) ⊎ Listed n F bytes
 
   pub data StepDue (room : ℕ) : Reply → Type 0 where
     -- 1 to 3
-    table : (fault : TableFault) → opened n t ≡ Refused fault → StepDue room (Table fault)
+    table : (fault : TableFault) → opened n t ≡ Err fault → StepDue room (Table fault)
     -- 4 to 7, where there is a record
-    graph : (fault : GraphFault) → opened n t ≡ Accepted → (bytes ≡ [] → ⊥) → reading n bytes ≡ refused fault → StepDue room (OfGraph fault First)
+    graph : (fault : GraphFault) → opened n t ≡ Ok tt → (bytes ≡ [] → ⊥) → reading n bytes ≡ refused fault → StepDue room (OfGraph fault First)
     -- 23: "F outside 1 and 2 is 23", "after the table and the record's own 4 to 7".
-    features : opened n t ≡ Accepted → (bytes ≡ []) ⊎ ((rows : List (Row Label)) × (reading n bytes ≡ accepted rows)) → ((F ≡ 1) ⊎ (F ≡ 2) → ⊥) →
+    features : opened n t ≡ Ok tt → (bytes ≡ []) ⊎ ((rows : List (Row Label)) × (reading n bytes ≡ accepted rows)) → ((F ≡ 1) ⊎ (F ≡ 2) → ⊥) →
         StepDue room FeatureCount
     -- 24: "a record that is read but not listed is 24".
-    not_listed : (rows : List (Row Label)) → opened n t ≡ Accepted → (F ≡ 1) ⊎ (F ≡ 2) → (bytes ≡ [] → ⊥) → reading n bytes ≡ accepted rows →
+    not_listed : (rows : List (Row Label)) → opened n t ≡ Ok tt → (F ≡ 1) ⊎ (F ≡ 2) → (bytes ≡ [] → ⊥) → reading n bytes ≡ accepted rows →
         (Listed n F bytes → ⊥) → StepDue room NotListed
     -- "the next or the end": no listed record is above the given one.
     end : Stepping → ((s : List ℕ) → Listed n F s → precedes bytes s ≡ true → ⊥) → StepDue room End

@@ -15,8 +15,8 @@ use Rattle.encode.specs.Encode.{written_out}
 use Rattle.record.specs.Read.{Reading, refused, accepted}
 use Rattle.record.specs.Unranged.{unranged, plain_rows, reading_types}
 use Rattle.replies.specs.declared.Side.TheVariants.{First}
-use Rattle.replies.specs.declared.Reply.{Reply}
-use Rattle.replies.specs.declared.Reply.TheVariants as reply
+use Rattle.replies.specs.Replies.{Reply}
+use Rattle.replies.specs.Replies as reply
 use Rattle.replies.specs.Reply.{Result, result_of, refusing}
 use Rattle.calls.specs.Calls.{checked}
 use Rattle.pairs.specs.Pair.{read_both}

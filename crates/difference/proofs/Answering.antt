@@ -4,6 +4,7 @@ use mathlib.Core.Bool.{Bool, true, false, cond}
 use mathlib.Core.List.{List, [], ◌++◌}
 use mathlib.Core.Option.{Option, none}
 use Prim.Native.Nat.{ℕ, ◌≤◌}
+use Rattle.std.specs.Prelude.{None, Some, Ok, Err}
 use native.Mathlib.Omega.{arith}
 use lib.Dec.{eqb, leb}
 use lib.ListN.{length, get_or, take, drop, replicate, length-replicate}
@@ -19,21 +20,19 @@ use Rattle.lattice.specs.Labels.{table_labels}
 use Rattle.lattice.proofs.Laws.{accepted-size}
 use Rattle.layout.specs.Layout.{Recorded, graph_in, rows_of}
 use Rattle.encoder.specs.Encode.{encoded}
-use Rattle.encode.specs.declared.Written.{Written}
-use Rattle.encode.specs.declared.Written.TheVariants as outcome
-use Rattle.encode.specs.declared.Marked.{Marked}
-use Rattle.encode.specs.declared.Marked.TheVariants as marked
-use Rattle.encode.specs.Encode.{fitted, written_out, yielding}
-use Rattle.encode.specs.Marks.{Noted, noting, fitted_both, marked_out, marks_along}
+use Rattle.encode.specs.declared.Unwritten.TheVariants as unwritten
+use Rattle.encode.specs.declared.Unmarked.{Unmarked}
+use Rattle.encode.specs.declared.Unmarked.TheVariants as unmarked
+use Rattle.encode.specs.Encode.{fitted, written_out, yielding, Writing}
+use Rattle.encode.specs.Marks.{Marking, Noted, noting, fitted_both, marked_out, marks_along}
 use Rattle.record.proofs.Accepted.{rules-of-any-size}
 use Rattle.record.specs.Reads.{Loaded}
 use Rattle.record.proofs.Loaded.{loaded-rules, loaded-reached, loaded-recorded}
 use Rattle.record.proofs.Ordered.{order-test}
-use Rattle.replies.specs.declared.Reply.{Reply}
-use Rattle.replies.specs.declared.Reply.TheVariants.{Length, NotBelow, NoWantedType, NoReasonRoom}
+use Rattle.replies.specs.declared.Refusal.{Refusal}
+use Rattle.replies.specs.Replies.{Reply, Length, NotBelow, NoWantedType, NoReasonRoom, told, refusal_of_unmarked}
 use Rattle.replies.specs.Reply.{Result, resulting, result_of, reply_of, refusing, length_of}
-use Rattle.subsume.specs.declared.Order.{Order}
-use Rattle.subsume.specs.declared.Order.TheVariants as order
+use Rattle.replies.proofs.Told.{told-unwritten}
 use Rattle.subsume.specs.Promise.{Orders}
 use Rattle.link_orders.specs.declared.LinkOrder.{LinkOrder}
 use Rattle.link_orders.specs.LinkOrders.{earlier_by}
@@ -51,6 +50,8 @@ use Rattle.difference.specs.Explained.{Explained, explained_result, length_with_
 use Rattle.difference.specs.Writing.{WritesRows}
 use Rattle.difference.proofs.Result.{answers-wanted, made-canonical, made-reasons}
 use Rattle.difference.proofs.Along.{all-along, difference-along, reasons-along}
+use Rattle.groups.specs.declared.LinkMark.{LinkMark}
+use Rattle.groups.specs.declared.LinkMark.TheVariants as link_mark
 
 -- Words that hold acceptable rows.
 
@@ -61,9 +62,9 @@ comparable-recorded {n} {t} given =
     (loaded-recorded few given.specific, loaded-recorded few given.general)
 
 -- Where s is below g, comparable graphs meet what the steps of the difference require.
-pub asked-below : (n : ℕ) (t g s : List ℕ) {answer : Order} {map : List ℕ} → Comparable n t g s →
-    Orders n t (rows_of s) (rows_of g) answer map → answer ≡ order.Below → Asked n t g s map
-asked-below n t g s given orders below =
+pub asked-below : (n : ℕ) (t g s : List ℕ) {map : List ℕ} → Comparable n t g s →
+    Orders n t (rows_of s) (rows_of g) (Some map) → Asked n t g s map
+asked-below n t g s given below =
     let few = (accepted-size n t given.accepts).1 in
     let one = given.general in
     let other = given.specific in
@@ -77,18 +78,17 @@ asked-below n t g s given orders below =
       upper-reached = loaded-reached one;
       lower-reached = loaded-reached other;
       any-size = (rules-of-any-size n (rows_of s) (loaded-rules other) t).any-size;
-      lies = orders.yes-stands below;
+      lies = below;
     }
 
 -- With wanted labels and marks, the graphs meet what making the rows requires.
-pub prepared-below : (order : LinkOrder) (n : ℕ) (t g s : List ℕ) {map marks labels : List ℕ} {wanted : Bool} → Asked n t g s map →
+pub prepared-below : (order : LinkOrder) (n : ℕ) (t g s : List ℕ) {map : List ℕ} {marks : List LinkMark} {labels : List ℕ} {wanted : Bool} → Asked n t g s map →
     WantsAll n t s g map wanted labels → wanted ≡ true → MarkedBy (earlier_by order) s g map marks →
     Prepared (earlier_by order) n t g s map marks labels
 prepared-below order n t g s asked wants all marked =
     record { asked = asked; wants = wants.wants all; strict = earlier-by-order order; marked = marked }
 
-module _ (earlier : Link ℕ → Link ℕ → Bool) (n : ℕ) (t out : List ℕ) (g s : List ℕ) (given : Loaded n g) {answer : Order} {map : List ℕ}
-    (orders : Orders n t (rows_of s) (rows_of g) answer map) where
+module _ (earlier : Link ℕ → Link ℕ → Bool) (n : ℕ) (t out : List ℕ) (g s : List ℕ) (given : Loaded n g) where
   abbrev below : Bool
   below = subsumes (table_labels n t) eqb eqb (graph_in s) (graph_in g) (length (rows_of g))
 
@@ -99,23 +99,23 @@ module _ (earlier : Link ℕ → Link ℕ → Bool) (n : ℕ) (t out : List ℕ)
   chosen lies all = cond lies (cond all written (refusing NoWantedType out)) (refusing NotBelow out)
 
   -- The reply is 12 where s is not below g.
-  differed-refused : answer ≡ order.NotBelow → resulting NotBelow out ≡ differed earlier n t out (rows_of g) (rows_of s)
+  differed-refused : Orders n t (rows_of s) (rows_of g) None → resulting NotBelow out ≡ differed earlier n t out (rows_of g) (rows_of s)
   unfolding differed
-  differed-refused e = sym (ap (λ (b : Bool). chosen b (all_wanted n t (rows_of s) (rows_of g))) (go below refl))
+  differed-refused never = sym (ap (λ (b : Bool). chosen b (all_wanted n t (rows_of s) (rows_of g))) (go below refl))
     where
       go : (b : Bool) → below ≡ b → b ≡ false
       go false q = refl
-      go true q = absurd (orders.no-stands e ((order-test n t (rows_of s) (rows_of g) (loaded-rules given)).0 q))
+      go true q = absurd (never ((order-test n t (rows_of s) (rows_of g) (loaded-rules given)).0 q))
 
-  module _ (e : answer ≡ order.Below) where
+  module _ (map : List ℕ) (lies : Orders n t (rows_of s) (rows_of g) (Some map)) where
     lies-below : below ≡ true
-    lies-below = (order-test n t (rows_of s) (rows_of g) (loaded-rules given)).1 (map_below (orders.yes-stands e))
+    lies-below = (order-test n t (rows_of s) (rows_of g) (loaded-rules given)).1 (map_below lies)
 
     chosen-all : (b : Bool) → b ≡ all_wanted_along n t (rows_of s) (rows_of g) (λ y. get_or map y 0) →
         chosen true b ≡ differed earlier n t out (rows_of g) (rows_of s)
     unfolding differed
     chosen-all b all =
-        ap (chosen true) (all ∙ all-along n t (rows_of s) (rows_of g) map (loaded-rules given) (orders.yes-stands e)) ∙
+        ap (chosen true) (all ∙ all-along n t (rows_of s) (rows_of g) map (loaded-rules given) lies) ∙
         ap (λ (x : Bool). chosen x (all_wanted n t (rows_of s) (rows_of g))) (sym lies-below)
 
     -- The reply is 13 where a node has no wanted label.
@@ -129,7 +129,7 @@ module _ (earlier : Link ℕ → Link ℕ → Bool) (n : ℕ) (t out : List ℕ)
         differed earlier n t out (rows_of g) (rows_of s)
     differed-same all =
         ap (λ k. result_of (written_out (canonical eqb k) out))
-        (difference-along n t (rows_of s) (rows_of g) map (loaded-rules given) (orders.yes-stands e) earlier) ∙
+        (difference-along n t (rows_of s) (rows_of g) map (loaded-rules given) lies earlier) ∙
         chosen-all true all
 
 -- The difference with its reasons.
@@ -140,6 +140,18 @@ pub refuses-with-reasons : (explained : Bool) {plain : Result} (r : Reply) (reas
 refuses-with-reasons true r reasons out old e q =
     ap (λ (o : Option ℕ). length_with_reasons o (resulting r out) reasons out old) (sym e) ∙ ap (λ (p : Result). with_reasons p reasons out old) q
 refuses-with-reasons false r reasons out old e q = ap (λ (p : Result). explained_result p.reply p.output old) q
+
+-- The reply of a call that ends in writing with marks: the length is passed on, or the reason as a refusal.
+module _ {m : Marking} where
+  pub told-marked : {l : ℕ} → m ≡ Ok l → told (Ok l) ≡ marked_reply m
+  told-marked e = ap marked_reply (sym e)
+
+  pub told-unmarked : {why : Unmarked} {refusal : Refusal} → m ≡ Err why → refusal ≡ refusal_of_unmarked why → told (Err refusal) ≡ marked_reply m
+  told-unmarked {why} e r = ap (λ (q : Refusal). told (Err q)) r ∙ go why ∙ ap marked_reply (sym e)
+    where
+      go : (x : Unmarked) → told (Err (refusal_of_unmarked x)) ≡ marked_reply (Err x)
+      go (unmarked.Unwritten x) = told-unwritten refl refl
+      go unmarked.NoMarkRoom = refl
 
 -- The result of writing with marks.
 abbrev noted : Noted → Explained
@@ -157,8 +169,8 @@ noted-with-reasons (canonicalRows rows) marks out old = record-fits (leb (length
     bytes = encoded rows
 
     marks-fit : (c : Bool) → noted
-        (cond c (noting (marked.Written (outcome.Length (length (encoded rows)))) (encoded rows ++ drop (length (encoded rows)) out) (marks ++ drop (length marks) old))
-        (noting marked.NoMarkRoom out old)) ≡
+        (cond c (noting (Ok (length (encoded rows))) (encoded rows ++ drop (length (encoded rows)) out) (marks ++ drop (length marks) old))
+        (noting (Err unmarked.NoMarkRoom) out old)) ≡
         cond c (explained_result (Length (length (encoded rows))) (encoded rows ++ drop (length (encoded rows)) out) (marks ++ drop (length marks) old))
         (explained_result NoReasonRoom out old)
     marks-fit true = refl
@@ -167,18 +179,18 @@ noted-with-reasons (canonicalRows rows) marks out old = record-fits (leb (length
     record-fits : (b : Bool) → noted
         (cond b
         (cond (leb (length marks) (length old))
-        (noting (marked.Written (outcome.Length (length (encoded rows)))) (encoded rows ++ drop (length (encoded rows)) out) (marks ++ drop (length marks) old))
-        (noting marked.NoMarkRoom out old))
-        (noting (marked.Written outcome.NoRoom) out old)) ≡
+        (noting (Ok (length (encoded rows))) (encoded rows ++ drop (length (encoded rows)) out) (marks ++ drop (length marks) old))
+        (noting (Err unmarked.NoMarkRoom) out old))
+        (noting (Err (unmarked.Unwritten unwritten.NoRoom)) out old)) ≡
         with_reasons
-        (result_of (cond b (yielding (outcome.Length (length (encoded rows))) (encoded rows ++ drop (length (encoded rows)) out)) (yielding outcome.NoRoom out)))
+        (result_of (cond b (yielding (Ok (length (encoded rows))) (encoded rows ++ drop (length (encoded rows)) out)) (yielding (Err unwritten.NoRoom) out)))
         marks out old
     record-fits true = marks-fit (leb (length marks) (length old))
     record-fits false = refl
 
-module _ {explained : Bool} {s marks words : List ℕ} (out old : List ℕ) where
+module _ {explained : Bool} {s : List ℕ} {marks : List LinkMark} {words : List ℕ} (out old : List ℕ) where
   -- The record is written without reasons.
-  pub plain-written : explained ≡ false → {w : Written} {r : Reply} {new : List ℕ} → yielding w new ≡ written_out (canonical eqb (graph_in words)) out → r ≡ reply_of w →
+  pub plain-written : explained ≡ false → {w : Writing} {r : Reply} {new : List ℕ} → yielding w new ≡ written_out (canonical eqb (graph_in words)) out → r ≡ reply_of w →
       WritesRows explained s marks words out old (explained_result r new old)
   plain-written e {new = new} yields said =
       record {
@@ -191,7 +203,7 @@ module _ {explained : Bool} {s marks words : List ℕ} (out old : List ℕ) wher
       }
 
   -- The record is written with its reasons.
-  pub marked-written : explained ≡ true → {held : List ℕ} → Explains s marks words held → {m : Marked} {r : Reply} {new reasons : List ℕ} →
+  pub marked-written : explained ≡ true → {held : List ℕ} → Explains s marks words held → {m : Marking} {r : Reply} {new reasons : List ℕ} →
       noting m new reasons ≡ marked_out (canonical eqb (graph_in words)) (marks_along words held (written_order eqb (graph_in words))) out old → r ≡ marked_reply m →
       WritesRows explained s marks words out old (explained_result r new reasons)
   marked-written e {held} explains {new = new} {reasons = reasons} yields said =
@@ -207,36 +219,35 @@ module _ {explained : Bool} {s marks words : List ℕ} (out old : List ℕ) wher
 
 -- The reply to a call for a difference.
 
-module _ (options : Options) (n : ℕ) (t g s out old : List ℕ) (given : Comparable n t g s) {answer : Order} {map : List ℕ}
-    (orders : Orders n t (rows_of s) (rows_of g) answer map) where
+module _ (options : Options) (n : ℕ) (t g s out old : List ℕ) (given : Comparable n t g s) where
   abbrev earlier : Link ℕ → Link ℕ → Bool
   earlier = earlier_by options.order
 
   -- The reply is 12 where s is not below g.
-  pub answers-not-below : answer ≡ order.NotBelow → explained_result NotBelow out old ≡ differed_words options n t g s out old
-  answers-not-below e =
+  pub answers-not-below : Orders n t (rows_of s) (rows_of g) None → explained_result NotBelow out old ≡ differed_words options n t g s out old
+  answers-not-below never =
       refuses-with-reasons options.explained NotBelow (reasons_rows earlier n t (rows_of g) (rows_of s)) out old refl
-      (differed-refused earlier n t out g s given.general orders e)
+      (differed-refused earlier n t out g s given.general never)
 
-  module _ (below : answer ≡ order.Below) {wanted : Bool} {labels : List ℕ} (wants : WantsAll n t s g map wanted labels) where
+  module _ {map : List ℕ} (below : Orders n t (rows_of s) (rows_of g) (Some map)) {wanted : Bool} {labels : List ℕ} (wants : WantsAll n t s g map wanted labels) where
     is-wanted : wanted ≡ all_wanted_along n t (rows_of s) (rows_of g) (λ y. get_or map y 0)
-    is-wanted = answers-wanted (asked-below n t g s given orders below) wants
+    is-wanted = answers-wanted (asked-below n t g s given below) wants
 
     -- The reply is 13 where a node has no wanted label.
     pub answers-unwanted : wanted ≡ false → explained_result NoWantedType out old ≡ differed_words options n t g s out old
     answers-unwanted e =
         refuses-with-reasons options.explained NoWantedType (reasons_rows earlier n t (rows_of g) (rows_of s)) out old refl
-        (differed-unwanted earlier n t out g s given.general orders below (sym e ∙ is-wanted))
+        (differed-unwanted earlier n t out g s given.general map below (sym e ∙ is-wanted))
 
     -- Else the difference is written, with its reasons if they are asked for.
-    module _ (all : wanted ≡ true) {marks words : List ℕ} (by : MarkedBy earlier s g map marks) (made : Made n t s marks labels words) where
+    module _ (all : wanted ≡ true) {marks : List LinkMark} {words : List ℕ} (by : MarkedBy earlier s g map marks) (made : Made n t s marks labels words) where
       prepared : Prepared earlier n t g s map marks labels
-      prepared = prepared-below options.order n t g s (asked-below n t g s given orders below) wants all by
+      prepared = prepared-below options.order n t g s (asked-below n t g s given below) wants all by
 
       plain-same : result_of (written_out (canonical eqb (graph_in words)) out) ≡ differed earlier n t out (rows_of g) (rows_of s)
       plain-same =
           ap (λ (k : Canonical Label). result_of (written_out k out)) (sym (made-canonical prepared made))
-          ∙ differed-same earlier n t out g s given.general orders below (sym all ∙ is-wanted)
+          ∙ differed-same earlier n t out g s given.general map below (sym all ∙ is-wanted)
 
       pub answers-written : {x : Explained} → WritesRows options.explained s marks words out old x → x ≡ differed_words options n t g s out old
       answers-written {x} writes = writes.is ∙ go options.explained refl
@@ -249,8 +260,8 @@ module _ (options : Options) (n : ℕ) (t g s out old : List ℕ) (given : Compa
           go true e =
               ap₂ (λ (p : Result) (rs : List ℕ). with_reasons p rs out old) plain-same
               (sym (made-reasons prepared made (writes.explains e))
-              ∙ reasons-along n t (rows_of s) (rows_of g) map (loaded-rules given.general) (orders.yes-stands below) earlier)
+              ∙ reasons-along n t (rows_of s) (rows_of g) map (loaded-rules given.general) below earlier)
 
--- As many fresh bytes for marks are lent as s has words.
-pub marks-fresh : (m : ℕ) (s : List ℕ) → length s ≤ m → length {A = ℕ} (take (length s) (replicate m 0)) ≡ length s
-marks-fresh m s short = length-take-le (length s) (replicate m 0) (omega (arith, short, length-replicate {A = ℕ} m 0))
+-- As many fresh marks are lent as s has words.
+pub marks-fresh : (m : ℕ) (s : List ℕ) → length s ≤ m → length {A = LinkMark} (take (length s) (replicate m link_mark.Follows)) ≡ length s
+marks-fresh m s short = length-take-le (length s) (replicate m link_mark.Follows) (omega (arith, short, length-replicate {A = LinkMark} m link_mark.Follows))

@@ -10,7 +10,7 @@ use Rattle.graphs.specs.Difference.{Link}
 use Rattle.lattice.specs.Label.{Label}
 use Rattle.layout.specs.Layout.{graph_of_rows}
 use Rattle.encode.specs.Encode.{written_out}
-use Rattle.replies.specs.declared.Reply.TheVariants.{NotBelow, NoWantedType}
+use Rattle.replies.specs.Replies.{NotBelow, NoWantedType}
 use Rattle.replies.specs.Reply.{Result, result_of, refusing}
 use Rattle.subsume.specs.Promise.{rows_below}
 use Rattle.difference.specs.Promise.{wanted_along, all_wanted_along, difference_along}

@@ -1,15 +1,14 @@
 -- The difference of g and s with its reasons (document 02, Paper 13): what a call replies, and what it leaves in its two outputs. Unless the
 -- reply is 22, reply and record are those of the difference without reasons.
-use Rattle.std.specs.Prelude.{Bool, true, false, cond, List, ◌++◌, ℕ, leb, length, drop}
+use Rattle.std.specs.Prelude.{Bool, true, false, cond, List, ◌++◌, ℕ, leb, length, drop, Ok, Err}
 use Rattle.std.proofs.Math.Option.{Option, none, some}
 use Rattle.graphs.specs.Rows.{Row}
 use Rattle.graphs.specs.Difference.{Link}
 use Rattle.lattice.specs.Label.{Label}
 use Rattle.layout.specs.Layout.{rows_of}
-use Rattle.encode.specs.declared.Marked.{Marked}
-use Rattle.encode.specs.declared.Marked.TheVariants as marked
-use Rattle.replies.specs.declared.Reply.{Reply}
-use Rattle.replies.specs.declared.Reply.TheVariants.{NoReasonRoom}
+use Rattle.encode.specs.declared.Unmarked.TheVariants as unmarked
+use Rattle.encode.specs.Marks.{Marking}
+use Rattle.replies.specs.Replies.{Reply, Length, NoReasonRoom}
 use Rattle.replies.specs.Reply.{Result, length_of, reply_of}
 use Rattle.link_orders.specs.LinkOrders.{earlier_by}
 use Rattle.difference.specs.declared.Options.{Options}
@@ -56,6 +55,7 @@ differed_words options n t g s out old =
     (reasons_rows (earlier_by options.order) n t (rows_of g) (rows_of s)) out old
 
 -- The reply that tells the answer of writing with marks.
-abbrev pub marked_reply : Marked → Reply
-marked_reply (marked.Written w) = reply_of w
-marked_reply marked.NoMarkRoom = NoReasonRoom
+abbrev pub marked_reply : Marking → Reply
+marked_reply (Ok l) = Length l
+marked_reply (Err (unmarked.Unwritten why)) = reply_of (Err why)
+marked_reply (Err unmarked.NoMarkRoom) = NoReasonRoom

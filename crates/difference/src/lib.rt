@@ -5,19 +5,19 @@
 
 #![tactic(auto)]
 
-ghost use Rattle.std.specs.Prelude.{◌≡◌, List, ℕ, length};
+ghost use Rattle.std.specs.Prelude.{◌≡◌, Bool, List, length};
 ghost use Rattle.link_orders.specs.LinkOrders.{Fitting};
 ghost use Rattle.keeping.specs.Keeping.{Markable};
 ghost use Rattle.reasons.specs.Explaining.{Copied, Made};
 ghost use Rattle.difference.specs.Prepared.{Preparable};
 ghost use Rattle.difference.specs.Comparable.{Comparable};
-ghost use Rattle.difference.specs.Explained.{differed_words, explained_result, marked_reply};
+ghost use Rattle.difference.specs.Explained.{differed_words, explained_result};
 ghost use Rattle.difference.specs.Writing.{WritesRows};
+ghost use Rattle.replies.specs.Replies.{told};
 
-use encode::Marked;
+use groups::LinkMark;
 use link_orders::LinkOrder;
-use replies::Reply;
-use subsume::Order;
+use replies::Refusal;
 
 // A call for a difference chooses the order of links, and whether the reasons are written beside the record.
 #[derive(Clone, Copy)]
@@ -36,17 +36,17 @@ pub fn difference<'a>(
     s: &'a [u16],
     out: &mut [u8],
     reasons: &mut [u8],
-) -> Reply
+) -> Result<usize, Refusal>
     requires { Comparable n table.now g.old s.now × Fitting options.order × (length g.old ≡ length s.now) }
-    ensures { explained_result result out.new reasons.new ≡
+    ensures { explained_result (told result) out.new reasons.new ≡
         differed_words options n table.now g.old s.now out.old reasons.old }
 {
     let words = s.len();
     if words <= layout::SHORT {
-        let mut marks = [0u8; layout::SHORT];
+        let mut marks = [LinkMark::Follows; layout::SHORT];
         return difference_in(n, table, options, g, s, &mut marks[..words], out, reasons);
     }
-    let mut marks = [0u8; layout::LONGEST];
+    let mut marks = [LinkMark::Follows; layout::LONGEST];
     difference_in(n, table, options, g, s, &mut marks[..words], out, reasons)
 }
 
@@ -57,24 +57,21 @@ fn difference_in<'a>(
     options: Options,
     g: &mut [u16],
     s: &'a [u16],
-    marks: &mut [u8],
+    marks: &mut [LinkMark],
     out: &mut [u8],
     reasons: &mut [u8],
-) -> Reply
+) -> Result<usize, Refusal>
     requires comparable { Comparable n table.now g.old s.now × Fitting options.order }
     requires g_len { (length g.old ≡ length s.now) × (length marks.old ≡ length s.now) }
-    ensures { explained_result result out.new reasons.new ≡
+    ensures { explained_result (told result) out.new reasons.new ≡
         differed_words options n table.now g.old s.now out.old reasons.old }
 {
-    let ordered = subsume::subsume(table, s, g);
-    let below = ordered.order;
-    let Order::Below = below else {
-        return Reply::NotBelow;
+    let Some(map) = subsume::subsume(table, s, g) else {
+        return Err(Refusal::NotBelow);
     };
-    let map = ordered.map;
     let mut labels = [0u16; 510];
     if !wanting::wanted_labels(n, table, g, s, &map, &mut labels) {
-        return Reply::NoWantedType;
+        return Err(Refusal::NoWantedType);
     }
     groups::mark_links(s, g, &map, options.order, marks);
     make(n, table, s, marks, &labels, g);
@@ -86,14 +83,14 @@ fn make<'a>(
     n: usize,
     table: &'a [u8],
     s: &'a [u16],
-    marks: &'a [u8],
+    marks: &'a [LinkMark],
     labels: &'a [u16; 510],
     words: &mut [u16],
 )
     requires { Preparable n table.now s.now marks.now labels.now × (length words.old ≡ length s.now) }
     ensures { Made n table.now s.now marks.now labels.now words.new }
 {
-    let mut keep = [0u8; 255];
+    let mut keep = [false; 255];
     keeping::keep::kept_nodes(n, table, s, marks, labels, &mut keep);
     keeping::rows::kept_links(s, marks, &keep, labels, words)
 }
@@ -102,29 +99,19 @@ fn make<'a>(
 fn write_rows<'a>(
     explained: bool,
     s: &'a [u16],
-    marks: &'a [u8],
+    marks: &'a [LinkMark],
     words: &'a [u16],
     out: &mut [u8],
     reasons: &mut [u8],
-) -> Reply
-    requires { ((meeting : List ℕ) → length meeting ≡ 255 → Markable s.now marks.now meeting) × Copied s.now words.now }
+) -> Result<usize, Refusal>
+    requires { ((meeting : List Bool) → length meeting ≡ 255 → Markable s.now marks.now meeting) × Copied s.now words.now }
     ensures { WritesRows explained s.now marks.now words.now out.old reasons.old
-        (explained_result result out.new reasons.new) }
+        (explained_result (told result) out.new reasons.new) }
 {
     if !explained {
-        return replies::reply_of(encode::canonical::write(words, out));
+        return Ok(encode::canonical::write(words, out)?);
     }
     let mut held = [0u8; layout::LONGEST];
     reasons::explain_links(s, marks, words, &mut held);
-    marked_reply(encode::canonical::write_marked(words, &held, out, reasons))
-}
-
-// The reply that tells the answer of writing with reasons.
-fn marked_reply(marked: Marked) -> Reply
-    ensures { result ≡ marked_reply marked }
-{
-    match marked {
-        Marked::Written(written) => replies::reply_of(written),
-        Marked::NoMarkRoom => Reply::NoReasonRoom,
-    }
+    Ok(encode::canonical::write_marked(words, &held, out, reasons)?)
 }

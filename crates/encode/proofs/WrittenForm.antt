@@ -13,6 +13,7 @@ use borrow.Author.Tests.{le-leb, lt-leb}
 use lib.Dec.{eqb}
 use lib.ListN.{length, get_or, take, length-map, length-reverse, get_or-map}
 use lib.Seq.{sets, slice, slice-cons, slice_empty, ext_get_or, get_or-take, length-take-le}
+use Rattle.std.specs.Prelude.{Ok, Err, Some, None}
 use Rattle.graphs.specs.Graph.{Graph}
 use Rattle.graphs.specs.Rows.{Row, from, target, links_of}
 use Rattle.graphs.specs.Number.{Canonical, canonical, counted, index_of, link_count, out_degree, many_links, many_nodes, row_of, visit, written}
@@ -33,11 +34,11 @@ use Rattle.visits.proofs.GraphVisit.{visit-rows}
 use Rattle.encoder.specs.Encode.{encoded}
 use Rattle.encoder.specs.NumberedRows.{Visited, degree, degrees, number_byte, numbered_row, numbered_rows, ranges, sum_along}
 use Rattle.encoder.proofs.WrittenRows.{ranges-upto, sum-reverse, row-ascending, row-degree, row_within, rows-length}
-use Rattle.encode.specs.declared.Written.TheVariants as outcome
+use Rattle.encode.specs.declared.Unwritten.TheVariants.{NoRoom}
 use Rattle.encode.specs.Encode.{yielding, written_out}
 use Rattle.encode.proofs.Links.{links_of-links, target-member}
 use Rattle.encode.proofs.Outcomes.{fitted_short, fitted-room, both-short, both-narrow, both-room}
-use Rattle.encode.specs.declared.Marked.TheVariants as marked
+use Rattle.encode.specs.declared.Unmarked.TheVariants as unmarked
 use Rattle.encode.specs.Marks.{MarksFit, Noted, noting, fitted_both, marks_along, marked_out}
 use Rattle.encode.proofs.MarkedRows.{marks-length}
 use Rattle.encode.proofs.RowPlaces.{rows_fit}
@@ -109,10 +110,23 @@ module _ {ws : List ℕ} (sound : Sound ws) where
         here : Inside v
         here = inside v (mathlib.Core.List.Memᴰ.head refl)
 
-  module _ {count : ℕ} {numbers visited : List ℕ} (numbered : Numbers ws count numbers visited) (all : length visited ≡ 255) where
-    start : Inside 0
-    start = sound.shaped.nonempty
+  start : Inside 0
+  start = sound.shaped.nonempty
 
+  -- a count is there or not
+  counted-none : {count : ℕ} → Some count ≡ None → ⊥
+  counted-none e = let z : ◌≡◌ {A = ℕ} 0 1 = cc in omega arith
+
+  -- more than 255 nodes
+  pub too_many : {numbers visited : List ℕ} → Numbers ws None numbers visited → canonical eqb g ≡ many_nodes
+  unfolding canonical
+  too_many {numbers} {visited} numbered = go (found_in ws) refl
+    where
+      go : (o : Option (List ℕ)) → found_in ws ≡ o → counted eqb g (visit eqb g.link 255 0 []) ≡ many_nodes
+      go none e = ap (counted eqb g) (visit-rows sound 255 0 [] start ∙ e)
+      go (some seen) e = absurd (counted-none (sym (numbered.counted seen e)))
+
+  module _ {count : ℕ} {numbers visited : List ℕ} (numbered : Numbers ws (Some count) numbers visited) (all : length visited ≡ 255) where
     -- the visit, and what it found
     module _ (seen : List ℕ) (e : found_in ws ≡ some seen) where
       visited-rows : visit eqb g.link 255 0 [] ≡ some seen
@@ -166,7 +180,7 @@ module _ {ws : List ℕ} (sound : Sound ws) where
           ∙ map-listed (links_at ws v) (λ l n. ap {B = ℕ × ℕ} (λ (x : ℕ). (l.0, x)) (number-byte l.1 (link-seen v m l n))))
 
       counted_is : count ≡ length seen
-      counted_is = numbered.counted seen e
+      counted_is = let same : Some count ≡ Some (length seen) = numbered.counted seen e in cc
 
       visited-is : take count visited ≡ reverse seen
       visited-is =
@@ -202,124 +216,117 @@ module _ {ws : List ℕ} (sound : Sound ws) where
           (le-leb (link_count g.link seen) 2048 (omega (arith, links-all)))
           ∙ ap (λ (rs : List (Row Label)). written rs) rows_are
 
-    -- more than 255 nodes
-    pub too_many : 255 < count → canonical eqb g ≡ many_nodes
-    unfolding canonical
-    too_many h = go (found_in ws) refl
+    found : (seen : List ℕ) × (found_in ws ≡ some seen)
+    found = go (found_in ws) refl
       where
-        go : (o : Option (List ℕ)) → found_in ws ≡ o → counted eqb g (visit eqb g.link 255 0 []) ≡ many_nodes
-        go none e = ap (counted eqb g) (visit-rows sound 255 0 [] start ∙ e)
-        go (some seen) e = absurd (omega (arith, counted_is seen e, seen-short seen e))
+        go : (o : Option (List ℕ)) → found_in ws ≡ o → (seen : List ℕ) × (found_in ws ≡ some seen)
+        go none e = absurd (counted-none (numbered.full e))
+        go (some seen) e = (seen, e)
 
-    module _ (few : count ≤ 255) where
-      found : (seen : List ℕ) × (found_in ws ≡ some seen)
-      found = go (found_in ws) refl
-        where
-          go : (o : Option (List ℕ)) → found_in ws ≡ o → (seen : List ℕ) × (found_in ws ≡ some seen)
-          go none e = absurd (omega (arith, numbered.full e))
-          go (some seen) e = (seen, e)
+    few : count ≤ 255
+    few = let (seen, e) = found in omega (arith, counted_is seen e, seen-short seen e)
 
-      pub visited-nodes : Visited ws visited count
-      visited-nodes =
+    pub visited-nodes : Visited ws visited count
+    visited-nodes =
+        record {
+          sound = sound;
+          few = few;
+          long = all;
+          nodes = λ i h. let (seen, e) = found in seen-inside seen e (get_or visited i 0) (visited-seen seen e i h);
+        }
+
+    -- a link from a node visited leads to one
+    pub visited-closed : (i k : ℕ) → i < count → links_from ws (get_or visited i 0) ≤ k → k < row_end ws (get_or visited i 0) →
+        get_or numbers (target_at ws k) 0 < count
+    visited-closed i k h low high =
+        let (seen, e) = found in
+        let v : ℕ = get_or visited i 0 in
+        let m : Memᴰ v seen = visited-seen seen e i h in
+        let inside : Inside v = seen-inside seen e v m in
+        omega (
+          arith,
+          counted_is seen e,
+          number-low seen e (target_at ws k)
+              (link-seen seen e v m (link_at ws k)
+              (links-at ws (row_end ws v) (sound.shaped.node v inside).ended (row_end ws v - links_from ws v) (links_from ws v)
+              (omega (arith, (sound.shaped.node v inside).begun)) k low high)),
+        )
+
+    -- the rows of the nodes visited have room where the graph has
+    pub visited-room : count + 2 + header * count + degrees ws (take count visited) ≤ length ws
+    visited-room =
+        let (seen, e) = found in
+        omega (
+          arith,
+          counted_is seen e,
+          ap (degrees ws) (visited-is seen e) ∙ sum-reverse (degree ws) seen,
+          rows_fit sound.shaped seen ((grown seen e).distinct tt) (seen-inside seen e),
+        )
+
+    visited-order : written_order eqb g ≡ take count visited
+    unfolding written_order
+    visited-order = let (seen, e) = found in ap order_in (visited-rows seen e) ∙ sym (visited-is seen e)
+
+    -- more than 2,048 links
+    pub many-links : 2048 < degrees ws (take count visited) → canonical eqb g ≡ many_links
+    many-links h = let (seen, e) = found in seen-links seen e h
+
+    pub written-rows : degrees ws (take count visited) ≤ 2048 → canonical eqb g ≡ written (numbered_rows ws numbers (take count visited))
+    written-rows h = let (seen, e) = found in seen-written seen e h
+
+    abbrev rows : List (Row Label)
+    rows = numbered_rows ws numbers (take count visited)
+
+    bytes-length : length (encoded rows) ≡ 1 + 9 * count + 2 * ranges ws (take count visited) + degrees ws (take count visited)
+    unfolding encoded
+    bytes-length =
+        let n : length (take count visited) ≡ count = length-take-le count visited (omega (arith, few)) in
+        omega (
+          arith,
+          n,
+          rows-length ws numbers sound (take count visited)
+              (λ i h.
+              subst (λ (v : ℕ). Inside v) (sym (get_or-take count visited i 0 (omega (arith, n)))) (visited-nodes.nodes i (omega (arith, n)))),
+        )
+
+    module _ {links ranged : ℕ} (sums : (links ≡ degrees ws (take count visited)) × (ranged ≡ ranges ws (take count visited))) where
+      abbrev size-written : ℕ
+      size-written = 1 + 9 * count + 2 * ranged + links
+
+      pub ranges-few : ranged ≤ 255
+      ranges-few = omega (arith, sums.1, ranges-upto ws visited count (omega (arith, few)), few)
+
+      length-is : length (encoded rows) ≡ size-written
+      length-is = omega (arith, bytes-length, sums.0, sums.1)
+
+      pub measured-fits : links ≤ 2048 → MarksFit ws numbers visited count links size-written
+      measured-fits fits =
           record {
-            sound = sound;
-            few = few;
-            long = all;
-            nodes = λ i h. let (seen, e) = found in seen-inside seen e (get_or visited i 0) (visited-seen seen e i h);
+            nodes = visited-nodes;
+            form = written-rows (omega (arith, sums.0));
+            order = visited-order;
+            links-are = sums.0;
+            length-is = length-is;
           }
-
-      -- a link from a node visited leads to one
-      pub visited-closed : (i k : ℕ) → i < count → links_from ws (get_or visited i 0) ≤ k → k < row_end ws (get_or visited i 0) →
-          get_or numbers (target_at ws k) 0 < count
-      visited-closed i k h low high =
-          let (seen, e) = found in
-          let v : ℕ = get_or visited i 0 in
-          let m : Memᴰ v seen = visited-seen seen e i h in
-          let inside : Inside v = seen-inside seen e v m in
-          omega (
-            arith,
-            counted_is seen e,
-            number-low seen e (target_at ws k)
-                (link-seen seen e v m (link_at ws k)
-                (links-at ws (row_end ws v) (sound.shaped.node v inside).ended (row_end ws v - links_from ws v) (links_from ws v)
-                (omega (arith, (sound.shaped.node v inside).begun)) k low high)),
-          )
-
-      -- the rows of the nodes visited have room where the graph has
-      pub visited-room : count + 2 + header * count + degrees ws (take count visited) ≤ length ws
-      visited-room =
-          let (seen, e) = found in
-          omega (
-            arith,
-            counted_is seen e,
-            ap (degrees ws) (visited-is seen e) ∙ sum-reverse (degree ws) seen,
-            rows_fit sound.shaped seen ((grown seen e).distinct tt) (seen-inside seen e),
-          )
-
-      visited-order : written_order eqb g ≡ take count visited
-      unfolding written_order
-      visited-order = let (seen, e) = found in ap order_in (visited-rows seen e) ∙ sym (visited-is seen e)
-
-      -- more than 2,048 links
-      pub many-links : 2048 < degrees ws (take count visited) → canonical eqb g ≡ many_links
-      many-links h = let (seen, e) = found in seen-links seen e h
-
-      pub written-rows : degrees ws (take count visited) ≤ 2048 → canonical eqb g ≡ written (numbered_rows ws numbers (take count visited))
-      written-rows h = let (seen, e) = found in seen-written seen e h
-
-      abbrev rows : List (Row Label)
-      rows = numbered_rows ws numbers (take count visited)
-
-      bytes-length : length (encoded rows) ≡ 1 + 9 * count + 2 * ranges ws (take count visited) + degrees ws (take count visited)
-      unfolding encoded
-      bytes-length =
-          let n : length (take count visited) ≡ count = length-take-le count visited (omega arith) in
-          omega (
-            arith,
-            n,
-            rows-length ws numbers sound (take count visited)
-                (λ i h.
-                subst (λ (v : ℕ). Inside v) (sym (get_or-take count visited i 0 (omega (arith, n)))) (visited-nodes.nodes i (omega (arith, n)))),
-          )
-
-      module _ {links ranged : ℕ} (sums : (links ≡ degrees ws (take count visited)) × (ranged ≡ ranges ws (take count visited))) where
-        abbrev size-written : ℕ
-        size-written = 1 + 9 * count + 2 * ranged + links
-
-        pub ranges-few : ranged ≤ 255
-        ranges-few = omega (arith, sums.1, ranges-upto ws visited count (omega arith))
-
-        length-is : length (encoded rows) ≡ size-written
-        length-is = omega (arith, bytes-length, sums.0, sums.1)
-
-        pub measured-fits : links ≤ 2048 → MarksFit ws numbers visited count links size-written
-        measured-fits fits =
-            record {
-              nodes = visited-nodes;
-              form = written-rows (omega (arith, sums.0));
-              order = visited-order;
-              links-are = sums.0;
-              length-is = length-is;
-            }
 
 -- What writing a graph that fits yields.
 module _ {ws numbers visited : List ℕ} {count links len : ℕ} (fits : MarksFit ws numbers visited count links len) (old : List ℕ) where
   abbrev rows_written : List (Row Label)
   rows_written = numbered_rows ws numbers (take count visited)
 
-  pub too_short : length old < len → written_out (canonical eqb (graph_in ws)) old ≡ yielding outcome.NoRoom old
+  pub too_short : length old < len → written_out (canonical eqb (graph_in ws)) old ≡ yielding (Err NoRoom) old
   unfolding written_out
   too_short short =
       ap (λ (form : Canonical Label). written_out form old) fits.form
       ∙ fitted_short (encoded rows_written) old (omega (arith, fits.length-is))
 
   pub written-whole : len ≤ length old →
-      written_out (canonical eqb (graph_in ws)) old ≡ yielding (outcome.Length len) (sets old 0 (encoded rows_written))
+      written_out (canonical eqb (graph_in ws)) old ≡ yielding (Ok len) (sets old 0 (encoded rows_written))
   unfolding written_out
   written-whole room =
       ap (λ (form : Canonical Label). written_out form old) fits.form
       ∙ fitted-room (encoded rows_written) old (omega (arith, fits.length-is))
-      ∙ ap (λ (n : ℕ). yielding (outcome.Length n) (sets old 0 (encoded rows_written))) fits.length-is
+      ∙ ap (λ (n : ℕ). yielding (Ok n) (sets old 0 (encoded rows_written))) fits.length-is
 
   -- with marks beside
   module _ (marks : List ℕ) (short : length ws ≤ longest) (long : length marks ≡ longest) (beside : List ℕ) where
@@ -341,19 +348,19 @@ module _ {ws numbers visited : List ℕ} {count links len : ℕ} (fits : MarksFi
     noted-is =
         ap₂ (λ (form : Canonical Label) (vs : List ℕ). marked_out form (marks_along ws marks vs) old beside) fits.form fits.order
 
-    pub marked-short : length old < len → noted ≡ noting (marked.Written outcome.NoRoom) old beside
+    pub marked-short : length old < len → noted ≡ noting (Err (unmarked.Unwritten NoRoom)) old beside
     marked-short h = noted-is ∙ both-short (encoded rows_written) marks-written old beside (omega (arith, fits.length-is))
 
     module _ (room : len ≤ length old) where
-      pub marked-narrow : length beside < links → noted ≡ noting marked.NoMarkRoom old beside
+      pub marked-narrow : length beside < links → noted ≡ noting (Err unmarked.NoMarkRoom) old beside
       marked-narrow h =
           noted-is
           ∙ both-narrow (encoded rows_written) marks-written old beside (omega (arith, fits.length-is)) (omega (arith, marks-count))
 
       pub marked-whole : links ≤ length beside →
-          noted ≡ noting (marked.Written (outcome.Length len)) (sets old 0 (encoded rows_written)) (sets beside 0 marks-written)
+          noted ≡ noting (Ok len) (sets old 0 (encoded rows_written)) (sets beside 0 marks-written)
       marked-whole h =
           noted-is
           ∙ both-room (encoded rows_written) marks-written old beside (omega (arith, fits.length-is)) (omega (arith, marks-count))
-          ∙ ap (λ (n : ℕ). noting (marked.Written (outcome.Length n)) (sets old 0 (encoded rows_written)) (sets beside 0 marks-written))
+          ∙ ap (λ (n : ℕ). noting (Ok n) (sets old 0 (encoded rows_written)) (sets beside 0 marks-written))
           fits.length-is

@@ -8,66 +8,54 @@ ghost use Rattle.layout.specs.Layout.{Sound, graph_in, longest};
 ghost use Rattle.encode.specs.Encode.{yielding, written_out};
 ghost use Rattle.encode.specs.Marks.{Measured, marks_along, marked_out, noting};
 
-use crate::{Marked, Written, marks};
+use crate::{Unmarked, Unwritten, marks};
 
-// Whether a graph is too large for a record; if not, how many nodes and links are written, and the record's length.
+// How many nodes and links of a graph are written, and the record's length.
 #[derive(Clone, Copy)]
 pub struct Dimensions {
-    pub large: bool,
     pub count: usize,
     pub links: usize,
     pub length: usize,
 }
 
-// Numbers a graph and measures its record.
-fn measure(graph: &[u16], numbers: &mut [u16; 510], visited: &mut [u16; 255]) -> Dimensions
+// Numbers a graph and measures its record, unless the graph is too large for one.
+fn measure(
+    graph: &[u16],
+    numbers: &mut [u16; 510],
+    visited: &mut [u16; 255],
+) -> Result<Dimensions, Unwritten>
     requires sound { Sound graph.now }
     requires numbers_len { (length numbers.old ≡ 510) × (length visited.old ≡ 255) }
-    ensures { Measured graph.now numbers.new visited.new result.large result.count result.links result.length }
+    ensures { Measured graph.now numbers.new visited.new result }
 {
-    let count = visits::numbering::number(graph, numbers, visited);
-    if 255 < count {
-        return Dimensions {
-            large: true,
-            count: 0,
-            links: 0,
-            length: 0,
-        };
-    }
+    let Some(count) = visits::numbering::number(graph, numbers, visited) else {
+        return Err(Unwritten::TooLarge); // more than 255 nodes
+    };
     let extent = encoder::extent_of(graph, visited, count);
     if 2048 < extent.links {
-        return Dimensions {
-            large: true,
-            count: 0,
-            links: 0,
-            length: 0,
-        };
+        return Err(Unwritten::TooLarge);
     }
     let length = 1 + 9 * count + 2 * extent.ranges + extent.links;
-    Dimensions {
-        large: false,
+    Ok(Dimensions {
         count,
         links: extent.links,
         length,
-    }
+    })
 }
 
 // Writes a graph as its written record.
-pub fn write(graph: &[u16], out: &mut [u8]) -> Written
+pub fn write(graph: &[u16], out: &mut [u8]) -> Result<usize, Unwritten>
     requires { Sound graph.now }
     ensures { yielding result out.new ≡ written_out (canonical eqb (graph_in graph.now)) out.old }
 {
     let mut numbers = [0u16; 510];
     let mut visited = [0u16; 255];
-    let sizes = measure(graph, &mut numbers, &mut visited);
-    if sizes.large {
-        return Written::TooLarge;
-    }
+    let sizes = measure(graph, &mut numbers, &mut visited)?;
     if out.len() < sizes.length {
-        return Written::NoRoom;
+        return Err(Unwritten::NoRoom);
     }
     encoder::encode(graph, &numbers, &visited, sizes.count, out);
-    Written::Length(sizes.length)
+    Ok(sizes.length)
 }
 
 // Writes a graph as its written record, and to `beside` the marks of its links, in record order. In `marks`, a mark stands at the place
@@ -77,7 +65,7 @@ pub fn write_marked<'a>(
     marks: &'a [u8; layout::LONGEST],
     out: &mut [u8],
     beside: &mut [u8],
-) -> Marked
+) -> Result<usize, Unmarked>
     requires sound { Sound graph.now }
     requires graph_len_bound { (length graph.now ≤ longest) × (length marks.now ≡ longest) }
     ensures { noting result out.new beside.new ≡
@@ -86,17 +74,14 @@ pub fn write_marked<'a>(
 {
     let mut numbers = [0u16; 510];
     let mut visited = [0u16; 255];
-    let sizes = measure(graph, &mut numbers, &mut visited);
-    if sizes.large {
-        return Marked::Written(Written::TooLarge);
-    }
+    let sizes = measure(graph, &mut numbers, &mut visited)?;
     if out.len() < sizes.length {
-        return Marked::Written(Written::NoRoom);
+        return Err(Unmarked::Unwritten(Unwritten::NoRoom));
     }
     if beside.len() < sizes.links {
-        return Marked::NoMarkRoom;
+        return Err(Unmarked::NoMarkRoom);
     }
     encoder::encode(graph, &numbers, &visited, sizes.count, out);
     marks::put_marks(graph, marks, &visited, sizes.count, beside);
-    Marked::Written(Written::Length(sizes.length))
+    Ok(sizes.length)
 }

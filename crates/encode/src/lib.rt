@@ -4,20 +4,31 @@
 
 #![tactic(auto)]
 
+ghost use Rattle.std.specs.Prelude.{◌≡◌};
+
 pub mod canonical;
 pub mod marks;
 
-// What writing a graph answers: the record's length, or document 01's refusals 11 and 8.
+// Why a graph is not written: document 01's refusals 11 and 8.
 #[derive(Clone, Copy)]
-pub enum Written {
-    Length(usize),
+pub enum Unwritten {
     TooLarge,
     NoRoom,
 }
 
-// What writing a graph with marks beside it answers: what writing the graph answers, or that there is no room for the marks.
+// Why a graph is not written with marks beside it: it is not written at all, or there is no room for the marks.
 #[derive(Clone, Copy)]
-pub enum Marked {
-    Written(Written),
+pub enum Unmarked {
+    Unwritten(Unwritten),
     NoMarkRoom,
+}
+
+impl From<Unwritten> for Unmarked {
+    ghost use Rattle.encode.specs.declared.Unmarked.TheVariants.{Unwritten};
+
+    ghost from_gives = { λ why unmarked. unmarked ≡ Unwritten why };
+
+    fn from(why: Unwritten) -> Unmarked {
+        Unmarked::Unwritten(why)
+    }
 }

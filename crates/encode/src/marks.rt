@@ -21,14 +21,9 @@ fn put_row<'a>(
     ensures value { result ≡ at + degree graph.now v }
     ensures beside_after { beside.new ≡ sets beside.old at (slice (links_from graph.now v) (row_end graph.now v) marks.now) }
 {
-    let end = graph[v + 2] as usize;
-    let mut k = graph[v + 1] as usize + layout::HEADER;
-    let mut next = at;
-    while k < end {
-        beside[next] = marks[k];
-        next += 1;
-        k += 1;
-    }
+    let row = &marks[layout::links_from(graph, v)..graph[v + 2] as usize];
+    let next = at + row.len();
+    beside[at..next].copy_from_slice(row);
     next
 }
 
@@ -46,10 +41,8 @@ pub fn put_marks<'a>(
     ensures { beside.new ≡ sets beside.old 0 (marks_along graph.now marks.now (take count visited.now)) }
 {
     let mut at = 0;
-    let mut i = 0;
-    while i < count {
+    for i in 0..count {
         let v = visited[i] as usize;
         at = put_row(graph, marks, v, at, beside);
-        i += 1;
     }
 }

@@ -9,6 +9,7 @@ use lib.ListN.{length, get_or, set, take, drop, length-append, length-map, lengt
 use lib.Seq.{sets, take-suc, take-take, length-sets, length-take-le}
 use lib.Bits.{bit_or}
 use lib.Pow.{pow_pos}
+use Rattle.std.proofs.lemmas.List.{get_or-take}
 use Rattle.graphs.specs.Rows.{from}
 use Rattle.graphs.specs.Large.{Ascending}
 use Rattle.lattice.specs.Label.{Label}
@@ -27,6 +28,20 @@ visited-node {vs = vs} v i h = v.sound.shaped.node (get_or vs i 0) (v.nodes i h)
 
 pub visited-small : {ws vs : List ℕ} {count : ℕ} → Visited ws vs count → (i : ℕ) → i < count → get_or vs i 0 < 510
 visited-small v i h = omega (arith, v.nodes i h, v.sound.shaped.few)
+
+-- The first `count` nodes visited, as a list of their own.
+module _ {ws vs : List ℕ} {count : ℕ} (v : Visited ws vs count) where
+  taken-long : length (take count vs) ≡ count
+  taken-long = length-take-le count vs (omega (arith, v.few, v.long))
+
+  pub taken-inside : (i : ℕ) → i < length (take count vs) → i < count
+  taken-inside i h = omega (arith, taken-long)
+
+  pub taken-is : (i : ℕ) → i < length (take count vs) → get_or (take count vs) i 0 ≡ get_or vs i 0
+  taken-is i h = get_or-take count vs i 0 (taken-inside i h)
+
+  pub taken-end : (i : ℕ) → length (take count vs) ≤ i → count ≤ i
+  taken-end i h = omega (arith, taken-long)
 
 -- Sums along nodes.
 

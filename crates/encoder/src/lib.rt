@@ -37,14 +37,10 @@ pub fn extent_of<'a>(graph: &'a [u16], visited: &'a [u16; 255], count: usize) ->
 {
     let mut links = 0;
     let mut ranges = 0;
-    let mut i = 0;
-    while i < count {
-        let v = visited[i] as usize;
-        let start = graph[v + 1] as usize + layout::HEADER;
-        let end = graph[v + 2] as usize;
-        links += end - start;
+    for &v in &visited[..count] {
+        let v = v as usize;
+        links += layout::links(graph, v).len();
         ranges += range_count(layout::label_at(graph, v));
-        i += 1;
     }
     Extent { links, ranges }
 }
@@ -79,20 +75,15 @@ fn encode_row<'a>(
     ensures value { result ≡ at + length (encoded_row (numbered_row graph.now numbers.now v)) }
     ensures out_after { out.new ≡ sets out.old at (encoded_row (numbered_row graph.now numbers.now v)) }
 {
-    let row = graph[v + 1] as usize;
-    let end = graph[v + 2] as usize;
     let map_at = put_label(layout::label_at(graph, v), at, out);
     let mut map: u64 = 0;
     let mut next = map_at + 8;
-    let mut k = row + layout::HEADER;
-    while k < end {
-        let w = graph[k];
-        map = map | (1u64 << ((w / layout::SCALE) as u32));
-        let target = (w % layout::SCALE) as usize;
+    for &link in layout::links(graph, v) {
+        map = map | (1u64 << (layout::feature(link) as u32));
+        let target = layout::target(link);
         let number = numbers[target];
         out[next] = (number % 256) as u8;
         next += 1;
-        k += 1;
     }
     put_map(map, map_at, out);
     next
@@ -104,11 +95,9 @@ fn put_map(map: u64, at: usize, out: &mut [u8])
     ensures { out.new ≡ sets out.old at (low_bytes 8 map) }
 {
     let mut left = map;
-    let mut i = 0;
-    while i < 8 {
+    for i in 0..8 {
         out[at + i] = (left % 256) as u8;
         left = left / 256;
-        i += 1;
     }
 }
 
@@ -126,10 +115,7 @@ pub fn encode<'a>(
 {
     out[0] = (count % 256) as u8;
     let mut at = 1;
-    let mut number = 0;
-    while number < count {
-        let v = visited[number] as usize;
-        at = encode_row(graph, numbers, v, at, out);
-        number += 1;
+    for &node in &visited[..count] {
+        at = encode_row(graph, numbers, node as usize, at, out);
     }
 }

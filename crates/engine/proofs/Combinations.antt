@@ -7,9 +7,12 @@ use mathlib.Core.Logic.{◌⊎◌}
 use Prim.Native.Nat.{ℕ, ◌-◌, ◌≤◌, ◌<◌}
 use lib.Dec.{eqb}
 use lib.ListN.{length}
+use Rattle.std.specs.Prelude.{Ok, Err, IsErrAnd, MatchResult}
+use Rattle.std.proofs.lemmas.Result.{err_from_is_err_and}
 use Rattle.graphs.specs.Rows.{Row, from}
 use Rattle.graphs.specs.Unify.{Unified, cycle, clash, unified}
-use Rattle.graphs.specs.OfRows.{combination_of}
+use Rattle.graphs.specs.Number.{canonical}
+use Rattle.graphs.specs.OfRows.{same_either, combination_of}
 use Rattle.lattice.specs.Label.{Label, plain, no_label}
 use Rattle.bounds.specs.Opening.{OpenedFor}
 use Rattle.bounds.specs.Sets.{meet_in}
@@ -18,29 +21,43 @@ use Rattle.lattice.proofs.Laws.{accepted-size, zero-type}
 use Rattle.lattice.proofs.Transfer.{same-unification}
 use Rattle.bounds.proofs.Types.{meets-known}
 use Rattle.layout.specs.Layout.{graph_of_rows, rows_of}
-use Rattle.encode.specs.Encode.{Yield, yielding}
+use Rattle.encode.specs.Encode.{Yield, Writing, yielding, written_out}
 use Rattle.record.specs.Reads.{Loaded}
 use Rattle.record.proofs.Accepted.{Rules}
-use Rattle.unify.specs.declared.Combined.{Combined}
 use Rattle.merging.specs.Lowered.{Meeting}
 use Rattle.merging.specs.Clash.{contradicts}
-use Rattle.unify.specs.Outcome.{unified_out, unifying_out}
+use Rattle.unify.specs.Outcome.{Combining, combining, unified_out, unifying_out}
 use Rattle.merging.specs.Rows.{Operand}
-use Rattle.replies.specs.declared.Reply.{Reply}
-use Rattle.replies.specs.Reply.{Result, resulting}
+use Rattle.replies.specs.Replies.{Measure, Reply, told}
+use Rattle.replies.specs.Reply.{Result, resulting, reply_of}
 use Rattle.record.proofs.Loaded.{loaded-reached, loaded-recorded, loaded-rules}
 use Rattle.engine.specs.Unifying.{combined, combined_reply, unified_rows}
 use Rattle.engine.proofs.Tables.{label-known}
 
 -- The result of combining.
-abbrev combined_result : Yield Combined → Result
+abbrev combined_result : Yield Combining → Result
 combined_result y = resulting (combined_reply y.answer) y.output
+
+combining-reply : (w : Writing) → combined_reply (combining w) ≡ reply_of w
+combining-reply (Ok l) = refl
+combining-reply (Err why) = refl
+
+-- The length is passed on, or a refusal that tells why there is no combination.
+pub told-combined : (answer : Combining) (r : Measure) →
+    MatchResult answer (λ l. r ≡ Ok l) (λ why. IsErrAnd r (λ given. told (Err given) ≡ combined_reply (Err why))) →
+    told r ≡ combined_reply answer
+told-combined (Ok l) r passes = ap told passes
+told-combined (Err why) r passes =
+    let (given, is, said) = err_from_is_err_and r passes in
+    ap told is ∙ said
 
 combined-is : (u : Unified Label (ℕ ⊎ ℕ)) (out : List ℕ) → combined_result (unified_out u out) ≡ combined u out
 unfolding unified_out
 combined-is cycle out = refl
 combined-is clash out = refl
-combined-is (unified u) out = refl
+combined-is (unified u) out =
+    let o = written_out (canonical same_either u) out in
+    ap (λ (r : Reply). resulting r o.output) (combining-reply o.answer)
 
 -- The combination of two graphs, given by their rows, by given meets.
 abbrev by_meets : ℕ → (ℕ → ℕ → ℕ) → List (Row Label) → List (Row Label) → Unified Label (ℕ ⊎ ℕ)
@@ -82,7 +99,7 @@ module _ {n : ℕ} {t sets : List ℕ} {cells : List (List ℕ)} (meets : Opened
       (λ w _. label-known (zero-type n t meets.ok) right w))
 
   -- For two graphs in words, reply and output are those that `unified_rows` defines.
-  pub unified-as : {g h : List ℕ} (out : List ℕ) → Loaded n g → Loaded n h → {answer : Combined} {r : Reply} {new : List ℕ} →
+  pub unified-as : {g h : List ℕ} (out : List ℕ) → Loaded n g → Loaded n h → {answer : Combining} {r : Reply} {new : List ℕ} →
       yielding answer new ≡ unifying_out n (meet_in n sets cells) g h out → r ≡ combined_reply answer →
       resulting r new ≡ unified_rows n t out (rows_of g) (rows_of h)
   unified-as {g} {h} out one other {new = new} yields said =

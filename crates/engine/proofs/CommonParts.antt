@@ -16,14 +16,13 @@ use Rattle.lattice.specs.Labels.{join_ranged, table_labels}
 use Rattle.lattice.proofs.Laws.{accepted-size, zero-type}
 use Rattle.lattice.proofs.Lawful.{label-parts}
 use Rattle.bounds.proofs.Types.{joins-known}
-use Rattle.encode.specs.declared.Written.{Written}
-use Rattle.encode.specs.Encode.{yielding, written_out}
+use Rattle.encode.specs.Encode.{yielding, written_out, Writing}
 use Rattle.record.specs.Reads.{Loaded}
 use Rattle.record.proofs.Accepted.{Rules}
 use Rattle.generalize.specs.Pairs.{Joinable}
 use Rattle.generalize.specs.Product.{product_out}
 use Rattle.generalize.proofs.Sides.{tells-pair}
-use Rattle.replies.specs.declared.Reply.{Reply}
+use Rattle.replies.specs.Replies.{Reply}
 use Rattle.replies.specs.Reply.{resulting, result_of, reply_of}
 use Rattle.record.proofs.Loaded.{loaded-recorded, loaded-rules}
 use Rattle.engine.specs.Generalizing.{generalized}
@@ -65,7 +64,7 @@ module _ {n : ℕ} {t sets : List ℕ} {cells : List (List ℕ)} (joins : Opened
       (λ x f. refl)
 
   -- For two graphs in words, reply and output are those that `generalized` defines.
-  pub generalized-as : {g h : List ℕ} (out : List ℕ) → Loaded n g → Loaded n h → {w : Written} {r : Reply} {new : List ℕ} →
+  pub generalized-as : {g h : List ℕ} (out : List ℕ) → Loaded n g → Loaded n h → {w : Writing} {r : Reply} {new : List ℕ} →
       yielding w new ≡ product_out (join_in n sets cells) g h out →
       r ≡ reply_of w → resulting r new ≡ generalized n t out (rows_of g) (rows_of h)
   unfolding generalized

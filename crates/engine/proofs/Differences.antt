@@ -6,6 +6,7 @@ use mathlib.Core.List.{List, [], Memᴰ}
 use Prim.Native.Nat.{ℕ, ◌<◌}
 use native.Mathlib.Omega.{arith}
 use lib.Dec.{eqb}
+use Rattle.std.specs.Prelude.{Ok, Err}
 use Rattle.graphs.specs.Rows.{Row}
 use Rattle.graphs.specs.Number.{canonical}
 use Rattle.graphs.proofs.Lists.{tells-eqb}
@@ -15,7 +16,6 @@ use Rattle.layout.specs.Layout.{size, label_at, links_at, graph_of_rows, rows_of
 use Rattle.layout.proofs.Rows.{rows-member}
 use Rattle.encoder.specs.Encode.{encoded}
 use Rattle.numbering.specs.Copies.{Renumbers}
-use Rattle.record.specs.declared.GraphFault.{GraphFault}
 use Rattle.record.specs.Read.{reading}
 use Rattle.record.specs.Reads.{Acceptable, Loaded}
 use Rattle.record.proofs.Accepted.{Rules, accepted-rules, rules-of-any-size, rules-types, rules-fit}
@@ -26,14 +26,12 @@ use Rattle.difference.specs.declared.Options.{Options}
 use Rattle.difference.specs.Difference.{differed, differed_rows, numbered}
 use Rattle.difference.specs.Explained.{Explained, explained_result, with_reasons_if, reasons_rows, differed_words}
 use Rattle.difference.proofs.Answering.{refuses-with-reasons}
-use Rattle.replies.specs.declared.Side.{Side}
-use Rattle.replies.specs.declared.Reply.TheVariants.{Graph}
+use Rattle.replies.specs.declared.Refusal.{Refusal}
 use Rattle.replies.specs.Reply.{Result, refusing}
-use Rattle.pairs.specs.declared.PairVerdict.{PairVerdict}
-use Rattle.pairs.specs.declared.PairVerdict.TheVariants as pair
-use Rattle.pairs.specs.Pair.{ReadsBoth}
+use Rattle.replies.proofs.Told.{refused-no-length}
+use Rattle.pairs.specs.Pair.{PairVerdict, ReadsBoth}
 use Rattle.pairs.proofs.Readings.{both-next, both-refused}
-use Rattle.engine.specs.Differing.{ReadsNumbered, parting_with, reasons_of}
+use Rattle.engine.specs.Differing.{parting_with, reasons_of}
 
 -- The words hold the written form of the graph with these rows, and its record is accepted.
 pub record Renumbered (n : ℕ) (rows : List (Row Label)) (ws : List ℕ) : Type 0 where
@@ -67,38 +65,17 @@ renumbered n g given {ws = ws} holds =
       rows_are = same ∙ sym (ap numbered fits);
     }
 
--- Reading two records and numbering the second as written gives `ReadsNumbered`.
-module _ {n : ℕ} {a b : List ℕ} {v : PairVerdict} {g given : List ℕ} (reads : ReadsBoth n (reading n a) (reading n b) v g given) where
-  pub numbered-refused : {fault : GraphFault} {side : Side} → v ≡ pair.Refused fault side → {s : List ℕ} →
-      ReadsNumbered n a b (pair.Refused fault side) g s
-  numbered-refused e =
-      record {
-        given = given;
-        reads = subst (λ (w : PairVerdict). ReadsBoth n (reading n a) (reading n b) w g given) e reads;
-        loaded = λ q. let z : ◌≡◌ {A = ℕ} 0 1 = cc q in absurd (omega arith);
-        rows_are = λ q. let z : ◌≡◌ {A = ℕ} 0 1 = cc q in absurd (omega arith);
-      }
-
-  pub numbered-both : v ≡ pair.Both → Loaded n g → {s : List ℕ} → Renumbered n (rows_of given) s → ReadsNumbered n a b pair.Both g s
-  numbered-both e one numbers =
-      record {
-        given = given;
-        reads = subst (λ (w : PairVerdict). ReadsBoth n (reading n a) (reading n b) w g given) e reads;
-        loaded = λ q. (one, numbers.loaded);
-        rows_are = λ q. numbers.rows_are;
-      }
-
 module _ (options : Options) (n : ℕ) (t a b out old : List ℕ) {v : PairVerdict} {g s : List ℕ}
     (reads : ReadsBoth n (reading n a) (reading n b) v g s) where
   -- If a record is refused, the reply is the refusal 4 to 7.
-  pub parting-refused : (fault : GraphFault) (side : Side) → v ≡ pair.Refused fault side →
-      explained_result (Graph fault side) out old ≡ parting_with options n t a b out old
-  parting-refused fault side e =
-      refuses-with-reasons options.explained (Graph fault side) (reasons_of (earlier_by options.order) n t a b) out old refl
-      (sym (both-refused reads (λ r. refusing r out) (differed_rows (earlier_by options.order) n t out) fault side e))
+  pub parting-refused : (refusal : Refusal) → v ≡ Err refusal →
+      explained_result (Err refusal) out old ≡ parting_with options n t a b out old
+  parting-refused refusal e =
+      refuses-with-reasons options.explained (Err refusal) (reasons_of (earlier_by options.order) n t a b) out old (refused-no-length refusal)
+      (sym (both-refused reads (λ r. refusing r out) (differed_rows (earlier_by options.order) n t out) refusal e))
 
   -- If both records are accepted, the result is that of the difference of the graphs in words.
-  pub parting-both : v ≡ pair.Both → (h : List ℕ) → rows_of h ≡ numbered (canonical eqb (graph_of_rows (rows_of s))) → {x : Explained} →
+  pub parting-both : v ≡ Ok tt → (h : List ℕ) → rows_of h ≡ numbered (canonical eqb (graph_of_rows (rows_of s))) → {x : Explained} →
       x ≡ differed_words options n t g h out old → x ≡ parting_with options n t a b out old
   unfolding reasons_of differed_rows
   parting-both both h rows_are e =

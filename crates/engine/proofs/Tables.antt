@@ -16,9 +16,8 @@ use Rattle.graphs.proofs.Form.Invariant.{bisimilar-canonical}
 use Rattle.lattice.specs.Label.{Label, no_label}
 use Rattle.lattice.specs.Labels.{Known}
 use Rattle.layout.specs.Layout.{graph_of_rows}
-use Rattle.acceptance.specs.declared.Opened.{Opened}
-use Rattle.acceptance.specs.declared.Opened.TheVariants.{Accepted}
-use Rattle.acceptance.specs.Reply.{opened}
+use Rattle.std.specs.Prelude.{Ok}
+use Rattle.acceptance.specs.Reply.{opened, TableAnswer}
 use Rattle.lattice.proofs.Lawful.{plain_known}
 use Rattle.lattice.proofs.Laws.{accepted-size}
 use Rattle.acceptance.proofs.Acceptance.{opened-accepted}
@@ -26,7 +25,7 @@ use Rattle.record.proofs.Nodes.{node_row}
 use Rattle.record.proofs.Accepted.{Rules}
 
 -- an accepted table has at most 64 types
-pub few-types : (n : ℕ) (t : List ℕ) (answer : Opened) → answer ≡ opened n t → answer ≡ Accepted → n ≤ 64
+pub few-types : (n : ℕ) (t : List ℕ) (answer : TableAnswer) → answer ≡ opened n t → answer ≡ Ok tt → n ≤ 64
 few-types n t answer e told = (accepted-size n t (opened-accepted n t answer e told)).1
 
 -- Every label of accepted rows is a label of the table, and so is the label past their end.

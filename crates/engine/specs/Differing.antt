@@ -1,27 +1,15 @@
 -- The difference of two records over an accepted table (document 01, "Difference"), with its reasons (document 02, Paper 13) or without them. g
 -- is the first graph, s the second.
-use Rattle.std.specs.Prelude.{◌≡◌, Bool, List, [], ℕ, eqb}
+use Rattle.std.specs.Prelude.{Bool, List, [], ℕ, eqb}
 use Rattle.graphs.specs.Number.{canonical}
 use Rattle.graphs.specs.Difference.{Link}
-use Rattle.layout.specs.Layout.{rows_of}
 use Rattle.record.specs.Read.{graph_of_rows, reading}
-use Rattle.record.specs.Reads.{Loaded}
 use Rattle.link_orders.specs.LinkOrders.{earlier_by}
 use Rattle.difference.specs.declared.Options.{Options}
 use Rattle.difference.specs.Difference.{differed_rows, numbered}
 use Rattle.difference.specs.Explained.{Explained, reasons_rows, with_reasons_if}
-use Rattle.pairs.specs.declared.PairVerdict.{PairVerdict}
-use Rattle.pairs.specs.declared.PairVerdict.TheVariants.{Both}
-use Rattle.pairs.specs.Pair.{ReadsBoth, read_both}
+use Rattle.pairs.specs.Pair.{read_both}
 use Rattle.replies.specs.Reply.{Result, refusing}
-
--- The verdict is that of reading the records a and b. Where both are accepted, the words g hold the first graph, and the words s hold the second
--- graph numbered as written.
-pub record ReadsNumbered (n : ℕ) (a b : List ℕ) (v : PairVerdict) (g s : List ℕ) : Type 0 where
-  pub given : List ℕ
-  pub reads : ReadsBoth n (reading n a) (reading n b) v g given
-  pub loaded : v ≡ Both → Loaded n g × Loaded n s
-  pub rows_are : v ≡ Both → rows_of s ≡ numbered (canonical eqb (graph_of_rows (rows_of given)))
 
 -- Both graphs' 4 to 7 are checked; then their difference by an order of links is written.
 abbrev pub parting : (Link ℕ → Link ℕ → Bool) → ℕ → List ℕ → List ℕ → List ℕ → List ℕ → Result

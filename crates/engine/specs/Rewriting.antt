@@ -6,7 +6,7 @@ use Rattle.lattice.specs.Label.{Label}
 use Rattle.encode.specs.Encode.{written_out}
 use Rattle.record.specs.Read.{Reading, refused, accepted, graph_of_rows}
 use Rattle.replies.specs.declared.Side.TheVariants.{First}
-use Rattle.replies.specs.declared.Reply.TheVariants.{Graph}
+use Rattle.replies.specs.Replies.{Graph}
 use Rattle.replies.specs.Reply.{Result, result_of, refusing}
 
 -- The result of writing a graph, given by its rows, in written form.

@@ -1,6 +1,6 @@
 -- The combination of two graphs, or of two records, over an accepted table (document 01, "Combination"): the reply, and what is left in the
 -- output.
-use Rattle.std.specs.Prelude.{List, ◌⊎◌, ℕ}
+use Rattle.std.specs.Prelude.{List, ◌⊎◌, ℕ, Ok, Err}
 use Rattle.graphs.specs.Graph.{Graph}
 use Rattle.graphs.specs.Rows.{Row}
 use Rattle.graphs.specs.Number.{canonical}
@@ -9,11 +9,11 @@ use Rattle.graphs.specs.OfRows.{same_either, combination_of}
 use Rattle.lattice.specs.Label.{Label, no_label}
 use Rattle.lattice.specs.Labels.{table_labels}
 use Rattle.encode.specs.Encode.{written_out}
-use Rattle.unify.specs.declared.Combined.{Combined}
-use Rattle.unify.specs.declared.Combined.TheVariants as unify
+use Rattle.unify.specs.declared.NoCombination.TheVariants as uncombined
+use Rattle.unify.specs.Outcome.{Combining}
 use Rattle.pairs.specs.Pair.{read_both, reading_beside}
-use Rattle.replies.specs.declared.Reply.{Reply}
-use Rattle.replies.specs.declared.Reply.TheVariants.{Cycle, Clash}
+use Rattle.replies.specs.Replies.{Reply}
+use Rattle.replies.specs.Replies.{Length, Cycle, Clash}
 use Rattle.replies.specs.Reply.{Result, reply_of, result_of, refusing}
 
 -- The reply is 9 for a loop, and 10 for a clash without a loop. Else `write` gives the result for the combined graph.
@@ -39,7 +39,8 @@ unified_beside n t list a b out =
     read_both (λ r. refusing r out) (reading_beside n t list a) (reading_beside n t list b) (unified_rows n t out)
 
 -- The reply that tells the answer of a combination.
-abbrev pub combined_reply : Combined → Reply
-combined_reply (unify.Written w) = reply_of w
-combined_reply unify.Cycle = Cycle
-combined_reply unify.Clash = Clash
+abbrev pub combined_reply : Combining → Reply
+combined_reply (Ok l) = Length l
+combined_reply (Err uncombined.Cycle) = Cycle
+combined_reply (Err uncombined.Clash) = Clash
+combined_reply (Err (uncombined.Unwritten why)) = reply_of (Err why)

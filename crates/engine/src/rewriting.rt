@@ -6,15 +6,21 @@ ghost use Rattle.decode.specs.Answers.{Roomy};
 ghost use Rattle.pairs.specs.Pair.{Optional, reading_beside};
 ghost use Rattle.replies.specs.Reply.{resulting};
 ghost use Rattle.engine.specs.Rewriting.{rewritten, rewritten_rows};
+ghost use Rattle.replies.specs.Replies.{told};
 
-use record::reading::Verdict;
-use replies::{Reply, Side};
+use replies::{Refusal, Side};
 
 // Writes a record over an accepted table with n types in written form. The record is read with a list of types for features, unless the list is
 // empty.
-pub fn of_record(n: usize, table: &[u8], list: &[u8], bytes: &[u8], out: &mut [u8]) -> Reply
+pub fn of_record(
+    n: usize,
+    table: &[u8],
+    list: &[u8],
+    bytes: &[u8],
+    out: &mut [u8],
+) -> Result<usize, Refusal>
     requires { (n ≤ 64) × Optional n list.now }
-    ensures { resulting result out.new ≡ rewritten (reading_beside n table.now list.now bytes.now) out.old }
+    ensures { resulting (told result) out.new ≡ rewritten (reading_beside n table.now list.now bytes.now) out.old }
 {
     if bytes.len() <= decode::rows::SHORT {
         let mut graph = [0u16; layout::SHORT];
@@ -32,21 +38,20 @@ fn rewrite_in(
     bytes: &[u8],
     graph: &mut [u16],
     out: &mut [u8],
-) -> Reply
+) -> Result<usize, Refusal>
     requires { (n ≤ 64) × Optional n list.now × Roomy bytes.now graph.old }
-    ensures { resulting result out.new ≡ rewritten (reading_beside n table.now list.now bytes.now) out.old }
+    ensures { resulting (told result) out.new ≡ rewritten (reading_beside n table.now list.now bytes.now) out.old }
 {
-    let verdict = pairs::read_one(n, table, list, bytes, graph);
-    match verdict {
-        Verdict::Refused(fault) => Reply::Graph(fault, Side::First),
-        Verdict::Accepted => of_graph(graph, out),
+    if let Err(fault) = pairs::read_one(n, table, list, bytes, graph) {
+        return Err(Refusal::Graph(fault, Side::First));
     }
+    of_graph(graph, out)
 }
 
 // Writes the written record of a graph in words.
-pub fn of_graph(graph: &[u16], out: &mut [u8]) -> Reply
+pub fn of_graph(graph: &[u16], out: &mut [u8]) -> Result<usize, Refusal>
     requires { Sound graph.now }
-    ensures { resulting result out.new ≡ rewritten_rows out.old (rows_of graph.now) }
+    ensures { resulting (told result) out.new ≡ rewritten_rows out.old (rows_of graph.now) }
 {
-    replies::reply_of(encode::canonical::write(graph, out))
+    Ok(encode::canonical::write(graph, out)?)
 }

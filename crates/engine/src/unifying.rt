@@ -1,90 +1,42 @@
-// The combination of two records, or of two graphs in words, over an accepted table (document 01, "Combination"). `sets` and `cells` hold the
-// meets of the table, as opening the table left them.
+// The combination of two graphs in words, over an accepted table (document 01, "Combination").
 
-ghost use Rattle.std.specs.Prelude.{◌≡◌, false, List, ℕ};
-ghost use Rattle.bounds.specs.Opening.{OpenedFor};
-ghost use Rattle.layout.specs.Layout.{rows_of};
-ghost use Rattle.record.specs.Reads.{Loaded};
-ghost use Rattle.pairs.specs.declared.PairVerdict.TheVariants.{Both};
-ghost use Rattle.pairs.specs.Pair.{Optional, ReadsBeside};
-ghost use Rattle.replies.specs.Reply.{resulting};
-ghost use Rattle.engine.specs.Unifying.{combined_reply, unified_beside, unified_rows};
+ghost use Rattle.std.specs.Prelude.{◌≡◌, false, Err};
+ghost use Rattle.engine.specs.Unifying.{combined_reply, unified_rows};
+ghost use Rattle.replies.specs.Replies.{told};
 
-use pairs::PairVerdict;
-use replies::Reply;
-use unify::Combined;
+use crate::operation::Operation;
+use replies::Refusal;
+use unify::NoCombination;
 
-// Writes the combination of two records. The records are read with a list of types for features, unless the list is empty.
-pub fn of_records<'a>(
-    n: usize,
-    table: &[u8],
-    list: &[u8],
-    sets: &'a [u64; bounds::sets::WORDS],
-    cells: &'a [[u8; 64]],
-    first: &[u8],
-    second: &[u8],
-    out: &mut [u8],
-) -> Reply
-    requires { OpenedFor false n table.now sets.now cells.now × Optional n list.now }
-    ensures { resulting result out.new ≡ unified_beside n table.now list.now first.now second.now out.old }
-{
-    if pairs::are_short(first, second) {
-        let mut a = [0u16; layout::SHORT];
-        let mut b = [0u16; layout::SHORT];
-        let verdict = pairs::read_both(n, table, list, first, second, &mut a, &mut b);
-        return of_read(verdict, n, sets, cells, &a, &b, out);
-    }
-    let mut a = [0u16; layout::LONGEST];
-    let mut b = [0u16; layout::LONGEST];
-    let verdict = pairs::read_both(n, table, list, first, second, &mut a, &mut b);
-    of_read(verdict, n, sets, cells, &a, &b, out)
-}
+// The operation that writes the combination.
+pub struct Combination;
 
-// Replies by the verdict on two records that are read. If a record is refused, the reply is the refusal; else the combination of the two graphs
-// in words is written.
-fn of_read<'a>(
-    verdict: PairVerdict,
-    n: usize,
-    sets: &'a [u64; bounds::sets::WORDS],
-    cells: &'a [[u8; 64]],
-    a: &'a [u16],
-    b: &'a [u16],
-    out: &mut [u8],
-) -> Reply
-    requires { ((t : List ℕ) × OpenedFor false n t sets.now cells.now) × (verdict ≡ Both → Loaded n a.now × Loaded n b.now) }
-    ensures { (t list x y : List ℕ) → OpenedFor false n t sets.now cells.now →
-        ReadsBeside n t list x y verdict a.now b.now →
-        resulting result out.new ≡ unified_beside n t list x y out.old }
-{
-    match verdict {
-        PairVerdict::Refused(fault, side) => Reply::Graph(fault, side),
-        PairVerdict::Both => of_graphs(n, sets, cells, a, b, out),
+impl Operation for Combination {
+    const JOINS: bool = false;
+
+    ghost JOINS = { false };
+
+    ghost written = { unified_rows };
+
+    fn of_graphs<'a>(
+        n: usize,
+        sets: &'a [u64; bounds::sets::WORDS],
+        cells: &'a [[u8; 64]],
+        a: &'a [u16],
+        b: &'a [u16],
+        out: &mut [u8],
+    ) -> Result<usize, Refusal> {
+        unify::unify(n, sets, cells, a, b, out).map_err(refused)
     }
 }
 
-// Writes the combination of two graphs in words.
-pub fn of_graphs<'a>(
-    n: usize,
-    sets: &'a [u64; bounds::sets::WORDS],
-    cells: &'a [[u8; 64]],
-    a: &'a [u16],
-    b: &'a [u16],
-    out: &mut [u8],
-) -> Reply
-    requires { ((t : List ℕ) × OpenedFor false n t sets.now cells.now) × (Loaded n a.now × Loaded n b.now) }
-    ensures { (t : List ℕ) → OpenedFor false n t sets.now cells.now →
-        resulting result out.new ≡ unified_rows n t out.old (rows_of a.now) (rows_of b.now) }
+// The refusal that tells why there is no combination.
+fn refused(why: NoCombination) -> Refusal
+    ensures { told (Err result) ≡ combined_reply (Err why) }
 {
-    combined_reply(unify::unify(n, sets, cells, a, b, out))
-}
-
-// The reply that tells the answer of a combination.
-fn combined_reply(combined: Combined) -> Reply
-    ensures { result ≡ combined_reply combined }
-{
-    match combined {
-        Combined::Written(written) => replies::reply_of(written),
-        Combined::Cycle => Reply::Cycle,
-        Combined::Clash => Reply::Clash,
+    match why {
+        NoCombination::Cycle => Refusal::Cycle,
+        NoCombination::Clash => Refusal::Clash,
+        NoCombination::Unwritten(why) => Refusal::from(why),
     }
 }

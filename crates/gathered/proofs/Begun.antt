@@ -14,15 +14,14 @@ use Rattle.graphs.specs.Rows.{Row}
 use Rattle.graphs.proofs.Walk.{some-injective}
 use Rattle.lattice.specs.Label.{Label}
 use Rattle.acceptance.specs.declared.TableFault.{TableFault}
-use Rattle.acceptance.specs.declared.Opened.{Opened}
-use Rattle.acceptance.specs.declared.Opened.TheVariants.{Accepted, Refused}
-use Rattle.acceptance.specs.Reply.{opened}
+use Rattle.std.specs.Prelude.{Ok, Err}
+use Rattle.acceptance.specs.Reply.{opened, TableAnswer}
 use Rattle.encode.specs.Encode.{fitted}
 use Rattle.record.specs.declared.GraphFault.{GraphFault}
 use Rattle.record.specs.Read.{Reading, refused, accepted, reading}
 use Rattle.replies.specs.declared.Side.TheVariants.{First}
-use Rattle.replies.specs.declared.Reply.{Reply}
-use Rattle.replies.specs.declared.Reply.TheVariants.{Length, Graph as OfGraph, TooLarge}
+use Rattle.replies.specs.Replies.{Reply}
+use Rattle.replies.specs.Replies.{Length, Graph as OfGraph, TooLarge}
 use Rattle.replies.specs.Reply.{Result, length_of}
 use Rattle.demands.specs.Demand.{WrittenRecord, Large, common}
 use Rattle.gathering.specs.Gathering.{state_of, joining, adding, comparing, finishing}
@@ -37,7 +36,7 @@ use Rattle.gathered.proofs.Holding.{gathered-are, adding-answer, comparing-is, a
 use Rattle.gathered.proofs.Theorems.{calls-hold, finish-is, finish-nothing, addition-state}
 use Rattle.gathered.proofs.Exact.{fitted_by, fitted_short, fitted-whole, joining-new, joining-exact, compared-exact}
 
-table-both : {X : Type 0} {x : Opened} {fault : TableFault} → x ≡ Accepted → x ≡ Refused fault → X
+table-both : {X : Type 0} {x : TableAnswer} {fault : TableFault} → x ≡ Ok tt → x ≡ Err fault → X
 table-both opens e = let z : ◌≡◌ {A = ℕ} 0 1 = cc (opens, e) in absurd (omega arith)
 
 read-both : {X : Type 0} {x : Reading} {rows : List (Row Label)} {fault : GraphFault} → x ≡ accepted rows → x ≡ refused fault → X
@@ -49,7 +48,7 @@ new-written n t o bytes new (due.first rows is reads one) = one.is-written
 new-written n t o bytes new (due.later part rows others is reads second one) = one.is-written
 
 -- The record of a new common part is what an addition takes.
-pub new-taken : (n : ℕ) (t : List ℕ) → opened n t ≡ Accepted → (o : Option (List ℕ)) (bytes new : List ℕ) → NewPart n t o bytes new →
+pub new-taken : (n : ℕ) (t : List ℕ) → opened n t ≡ Ok tt → (o : Option (List ℕ)) (bytes new : List ℕ) → NewPart n t o bytes new →
     taken (joining n t o bytes blank) ≡ some new
 new-taken n t opens o bytes new one =
     ap taken (joining-new n t bytes blank opens o new one) ∙
@@ -211,7 +210,7 @@ module _ (n : ℕ) (t : List ℕ) where
   calls-fold (finish out ∷ cs) state o holds = calls-fold cs state o holds
 
   -- Programs have one fold.
-  pub fold-one : opened n t ≡ Accepted → (o : Option (List ℕ)) (ps : List (List ℕ)) (last : Option (List ℕ)) → Folds n t o ps last → folded n t o ps ≡ last
+  pub fold-one : opened n t ≡ Ok tt → (o : Option (List ℕ)) (ps : List (List ℕ)) (last : Option (List ℕ)) → Folds n t o ps last → folded n t o ps ≡ last
   unfolding folded
   fold-one opens o ps last (due.end _) = refl
   fold-one opens o ps last (due.next _ bytes new more _ one others) =

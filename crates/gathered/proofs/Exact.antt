@@ -9,6 +9,7 @@ use native.Mathlib.Omega.{arith}
 use borrow.Author.Tests.{leb-true, leb-false, le-leb, lt-leb}
 use lib.Dec.{leb, eqb}
 use lib.ListN.{length, drop, length-append, length-drop}
+use Rattle.std.specs.Prelude.{Ok, Err}
 use Rattle.graphs.specs.Graph.{Graph, TellsApart}
 use Rattle.graphs.specs.Rows.{Row}
 use Rattle.graphs.specs.OfRows.{same_pair}
@@ -17,18 +18,16 @@ use Rattle.graphs.proofs.Lists.{tells-eqb}
 use Rattle.lattice.specs.Label.{Label}
 use Rattle.lattice.specs.Labels.{OfAnySize}
 use Rattle.acceptance.specs.declared.TableFault.{TableFault}
-use Rattle.acceptance.specs.declared.Opened.{Opened}
-use Rattle.acceptance.specs.declared.Opened.TheVariants.{Accepted, Refused}
-use Rattle.acceptance.specs.Reply.{opened}
-use Rattle.encode.specs.declared.Written.TheVariants as outcome
+use Rattle.acceptance.specs.Reply.{opened, TableAnswer}
+use Rattle.encode.specs.declared.Unwritten.TheVariants as unwritten
 use Rattle.encode.specs.Encode.{fitted, yielding}
 use Rattle.record.specs.declared.GraphFault.{GraphFault}
 use Rattle.record.specs.Read.{Reading, refused, accepted, reading, graph_of_rows}
 use Rattle.record.proofs.Theorems.{accepted-of-any-size, accepted-fits}
 use Rattle.generalize.proofs.Sides.{tells-pair}
 use Rattle.replies.specs.declared.Side.TheVariants.{First, Second}
-use Rattle.replies.specs.declared.Reply.{Reply}
-use Rattle.replies.specs.declared.Reply.TheVariants.{Length, Table, Graph as OfGraph, NoRoom, TooLarge, NothingGathered}
+use Rattle.replies.specs.Replies.{Reply}
+use Rattle.replies.specs.Replies.{Length, Table, Graph as OfGraph, NoRoom, TooLarge, NothingGathered}
 use Rattle.replies.specs.Reply.{Result, resulting, refusing, result_of, length_of}
 use Rattle.subsume.specs.Promise.{rows_below}
 use Rattle.orders.specs.Ordering.{compared, ordered}
@@ -49,7 +48,7 @@ use Rattle.gathered.proofs.Records.{rewriting-refused, generalizing-refused}
 
 module _ (new out : List ℕ) where
   abbrev pub fitted_by : Bool → Result
-  fitted_by b = result_of (cond b (yielding (outcome.Length (length new)) (new ++ drop (length new) out)) (yielding outcome.NoRoom out))
+  fitted_by b = result_of (cond b (yielding (Ok (length new)) (new ++ drop (length new) out)) (yielding (Err unwritten.NoRoom) out))
 
   pub fitted_short : length out < length new → result_of (fitted new out) ≡ refusing NoRoom out
   unfolding fitted
@@ -67,7 +66,7 @@ module _ (n : ℕ) (t : List ℕ) {C : Type 0} (k : Graph Label C) where
     no_room : (new : List ℕ) → RecordOf n t k new → room < length new → WriteDue room NoRoom
     fits : (new : List ℕ) → RecordOf n t k new → length new ≤ room → WriteDue room (Length (length new))
 
-  module _ (opens : opened n t ≡ Accepted) (same : C → C → Bool) (tells : TellsApart same) (size : OfAnySize n t k) where
+  module _ (opens : opened n t ≡ Ok tt) (same : C → C → Bool) (tells : TellsApart same) (size : OfAnySize n t k) where
     -- A graph has one record.
     record_is : (new : List ℕ) → RecordOf n t k new → record_of same k ≡ some new
     record_is new is =
@@ -101,31 +100,31 @@ module _ (n : ℕ) (t buffer : List ℕ) where
   abbrev begun_by : Bool → Result
   begun_by b = cond b (resulting (Length (3 + 8 * n)) (state_of n t [] (drop (3 + 8 * n) buffer))) (refusing NoRoom buffer)
 
-  begun_opened : opened n t ≡ Accepted → begun n t buffer ≡ begun_by (leb (1 + 8 * n + 2 + 4854) (length buffer))
+  begun_opened : opened n t ≡ Ok tt → begun n t buffer ≡ begun_by (leb (1 + 8 * n + 2 + 4854) (length buffer))
   unfolding begun
-  begun_opened opens = ap (λ (x : Opened). checked (λ r. refusing r buffer) x (begun_by (leb (1 + 8 * n + 2 + 4854) (length buffer)))) opens
+  begun_opened opens = ap (λ (x : TableAnswer). checked (λ r. refusing r buffer) x (begun_by (leb (1 + 8 * n + 2 + 4854) (length buffer)))) opens
 
-  begin-refused : (fault : TableFault) → opened n t ≡ Refused fault → begun n t buffer ≡ refusing (Table fault) buffer
+  begin-refused : (fault : TableFault) → opened n t ≡ Err fault → begun n t buffer ≡ refusing (Table fault) buffer
   unfolding begun
-  begin-refused fault e = ap (λ (x : Opened). checked (λ r. refusing r buffer) x (begun_by (leb (1 + 8 * n + 2 + 4854) (length buffer)))) e
+  begin-refused fault e = ap (λ (x : TableAnswer). checked (λ r. refusing r buffer) x (begun_by (leb (1 + 8 * n + 2 + 4854) (length buffer)))) e
 
-  begin-short : opened n t ≡ Accepted → length buffer < 3 + 8 * n + 4854 → begun n t buffer ≡ refusing NoRoom buffer
+  begin-short : opened n t ≡ Ok tt → length buffer < 3 + 8 * n + 4854 → begun n t buffer ≡ refusing NoRoom buffer
   begin-short opens less = begun_opened opens ∙ ap begun_by (lt-leb (1 + 8 * n + 2 + 4854) (length buffer) (omega (arith, less)))
 
-  begin-used : opened n t ≡ Accepted → 3 + 8 * n + 4854 ≤ length buffer →
+  begin-used : opened n t ≡ Ok tt → 3 + 8 * n + 4854 ≤ length buffer →
       begun n t buffer ≡ resulting (Length (3 + 8 * n)) (state_of n t [] (drop (3 + 8 * n) buffer))
   begin-used opens fit = begun_opened opens ∙ ap begun_by (le-leb (1 + 8 * n + 2 + 4854) (length buffer) (omega (arith, fit)))
 
   begin-due : BeginDue n t (length buffer) (begun n t buffer).reply
   begin-due = table (opened n t) refl
     where
-      room : opened n t ≡ Accepted → (b : Bool) → leb (1 + 8 * n + 2 + 4854) (length buffer) ≡ b → BeginDue n t (length buffer) (begun_by b).reply
+      room : opened n t ≡ Ok tt → (b : Bool) → leb (1 + 8 * n + 2 + 4854) (length buffer) ≡ b → BeginDue n t (length buffer) (begun_by b).reply
       room opens true e = due.used opens (omega (arith, leb-true (1 + 8 * n + 2 + 4854) (length buffer) e))
       room opens false e = due.no_room opens (omega (arith, leb-false (1 + 8 * n + 2 + 4854) (length buffer) e))
 
-      table : (x : Opened) → opened n t ≡ x → BeginDue n t (length buffer) (begun n t buffer).reply
-      table (Refused fault) e = subst (λ (y : Result). BeginDue n t (length buffer) y.reply) (sym (begin-refused fault e)) (due.table fault e)
-      table Accepted e =
+      table : (x : TableAnswer) → opened n t ≡ x → BeginDue n t (length buffer) (begun n t buffer).reply
+      table (Err fault) e = subst (λ (y : Result). BeginDue n t (length buffer) y.reply) (sym (begin-refused fault e)) (due.table fault e)
+      table (Ok tt) e =
           subst (λ (y : Result). BeginDue n t (length buffer) y.reply) (sym (begun_opened e))
           (room e (leb (1 + 8 * n + 2 + 4854) (length buffer)) refl)
 
@@ -153,12 +152,12 @@ module _ (n : ℕ) (t buffer : List ℕ) where
 
 -- Add.
 module _ (n : ℕ) (t bytes out : List ℕ) where
-  joining-table : (o : Option (List ℕ)) (fault : TableFault) → opened n t ≡ Refused fault → joining n t o bytes out ≡ refusing (Table fault) out
+  joining-table : (o : Option (List ℕ)) (fault : TableFault) → opened n t ≡ Err fault → joining n t o bytes out ≡ refusing (Table fault) out
   unfolding rewriting generalizing
   joining-table none fault e = rw e
   joining-table (some part) fault e = rw e
 
-  module _ (opens : opened n t ≡ Accepted) where
+  module _ (opens : opened n t ≡ Ok tt) where
     joining-program : (o : Option (List ℕ)) (fault : GraphFault) → reading n bytes ≡ refused fault → joining n t o bytes out ≡ refusing (OfGraph fault First) out
     joining-program none fault e = rewriting-refused n t opens bytes fault e out
     joining-program (some part) fault e = generalizing-refused n t opens bytes part fault e out
@@ -203,7 +202,7 @@ module _ (n : ℕ) (t bytes out : List ℕ) where
             AddDue n t o bytes (length out) (joining n t o bytes out).reply
         from e d = subst (λ (y : Result). AddDue n t o bytes (length out) y.reply) (sym e) d
 
-        wrote-first : opened n t ≡ Accepted → (rows : List (Row Label)) → o ≡ none → reading n bytes ≡ accepted rows → {r : Reply} →
+        wrote-first : opened n t ≡ Ok tt → (rows : List (Row Label)) → o ≡ none → reading n bytes ≡ accepted rows → {r : Reply} →
             WriteDue n t (graph_of_rows rows) (length out) r → AddDue n t o bytes (length out) r
         wrote-first opens rows is reads (too_large large) = absurd (program-small opens rows reads large)
         wrote-first opens rows is reads (no_room new one less) = due.no_room new opens (due.first rows is reads one) less
@@ -217,7 +216,7 @@ module _ (n : ℕ) (t bytes out : List ℕ) where
         wrote-later part rows others is given (fits new one fit) =
             due.fits new given.opens (due.later part rows others is given.first given.second one) fit
 
-        second : opened n t ≡ Accepted → (rows : List (Row Label)) → reading n bytes ≡ accepted rows → (part : List ℕ) → o ≡ some part →
+        second : opened n t ≡ Ok tt → (rows : List (Row Label)) → reading n bytes ≡ accepted rows → (part : List ℕ) → o ≡ some part →
             (x : Reading) → reading n part ≡ x → AddDue n t o bytes (length out) (generalizing n t bytes part out).reply
         second opens rows reads part is (refused fault) e =
             subst (λ (y : Result). AddDue n t o bytes (length out) y.reply) (sym (joining-gathered opens part rows fault reads e))
@@ -226,18 +225,18 @@ module _ (n : ℕ) (t bytes out : List ℕ) where
             let given : Given n t bytes part rows others = record { opens = opens; first = reads; second = e } in
             wrote-later part rows others is given (later-due opens part rows others given)
 
-        held : opened n t ≡ Accepted → (rows : List (Row Label)) → reading n bytes ≡ accepted rows → (p : Option (List ℕ)) → o ≡ p →
+        held : opened n t ≡ Ok tt → (rows : List (Row Label)) → reading n bytes ≡ accepted rows → (p : Option (List ℕ)) → o ≡ p →
             AddDue n t o bytes (length out) (joining n t p bytes out).reply
         held opens rows reads none is = wrote-first opens rows is reads (first-due opens rows reads)
         held opens rows reads (some part) is = second opens rows reads part is (reading n part) refl
 
-        first : opened n t ≡ Accepted → (x : Reading) → reading n bytes ≡ x → AddDue n t o bytes (length out) (joining n t o bytes out).reply
+        first : opened n t ≡ Ok tt → (x : Reading) → reading n bytes ≡ x → AddDue n t o bytes (length out) (joining n t o bytes out).reply
         first opens (refused fault) e = from (joining-program opens o fault e) (due.program fault opens e)
         first opens (accepted rows) e = held opens rows e o refl
 
-        table : (x : Opened) → opened n t ≡ x → AddDue n t o bytes (length out) (joining n t o bytes out).reply
-        table (Refused fault) e = from (joining-table o fault e) (due.table fault e)
-        table Accepted e = first e (reading n bytes) refl
+        table : (x : TableAnswer) → opened n t ≡ x → AddDue n t o bytes (length out) (joining n t o bytes out).reply
+        table (Err fault) e = from (joining-table o fault e) (due.table fault e)
+        table (Ok tt) e = first e (reading n bytes) refl
 
     joining-replies : {r : Reply} → AddDue n t o bytes (length out) r → (joining n t o bytes out).reply ≡ r
     joining-replies (due.table fault e) = ap (λ (y : Result). y.reply) (joining-table o fault e)
@@ -286,12 +285,12 @@ add-leaves state bytes l e = go l ((add-exact state bytes (Length l)).0 e)
 
 -- Order.
 module _ (n : ℕ) (t bytes : List ℕ) where
-  compared-table : (o : Option (List ℕ)) (fault : TableFault) → opened n t ≡ Refused fault → compared_with n t o bytes ≡ Table fault
+  compared-table : (o : Option (List ℕ)) (fault : TableFault) → opened n t ≡ Err fault → compared_with n t o bytes ≡ Table fault
   unfolding ordering
   compared-table none fault e = rw e
   compared-table (some part) fault e = rw e
 
-  module _ (opens : opened n t ≡ Accepted) where
+  module _ (opens : opened n t ≡ Ok tt) where
     compared-program : (o : Option (List ℕ)) (fault : GraphFault) → reading n bytes ≡ refused fault → compared_with n t o bytes ≡ OfGraph fault First
     unfolding ordering
     compared-program none fault e = rw (opens, e)
@@ -328,7 +327,7 @@ module _ (n : ℕ) (t bytes : List ℕ) where
         four part rows others is given false false e =
             let (x, y) = (neither-exact n t bytes part rows others given).0 e in due.neither part rows others is given x y
 
-        second : opened n t ≡ Accepted → (rows : List (Row Label)) → reading n bytes ≡ accepted rows → (part : List ℕ) → o ≡ some part →
+        second : opened n t ≡ Ok tt → (rows : List (Row Label)) → reading n bytes ≡ accepted rows → (part : List ℕ) → o ≡ some part →
             (x : Reading) → reading n part ≡ x → OrderDue n t o bytes (ordering n t bytes part)
         second opens rows reads part is (refused fault) e =
             from (compared-gathered opens part rows fault reads e) (due.gathered part rows fault opens reads is e)
@@ -337,18 +336,18 @@ module _ (n : ℕ) (t bytes : List ℕ) where
             let e = compared-both part rows others given in
             from e (four part rows others is given (rows_below n t rows others) (rows_below n t others rows) e)
 
-        held : opened n t ≡ Accepted → (rows : List (Row Label)) → reading n bytes ≡ accepted rows → (p : Option (List ℕ)) → o ≡ p →
+        held : opened n t ≡ Ok tt → (rows : List (Row Label)) → reading n bytes ≡ accepted rows → (p : Option (List ℕ)) → o ≡ p →
             OrderDue n t o bytes (compared_with n t p bytes)
         held opens rows reads none is = from (compared-nothing opens rows reads) (due.nothing rows opens reads is)
         held opens rows reads (some part) is = second opens rows reads part is (reading n part) refl
 
-        first : opened n t ≡ Accepted → (x : Reading) → reading n bytes ≡ x → OrderDue n t o bytes (compared_with n t o bytes)
+        first : opened n t ≡ Ok tt → (x : Reading) → reading n bytes ≡ x → OrderDue n t o bytes (compared_with n t o bytes)
         first opens (refused fault) e = from (compared-program opens o fault e) (due.program fault opens e)
         first opens (accepted rows) e = held opens rows e o refl
 
-        table : (x : Opened) → opened n t ≡ x → OrderDue n t o bytes (compared_with n t o bytes)
-        table (Refused fault) e = from (compared-table o fault e) (due.table fault e)
-        table Accepted e = first e (reading n bytes) refl
+        table : (x : TableAnswer) → opened n t ≡ x → OrderDue n t o bytes (compared_with n t o bytes)
+        table (Err fault) e = from (compared-table o fault e) (due.table fault e)
+        table (Ok tt) e = first e (reading n bytes) refl
 
     comparing-replies : {r : Reply} → OrderDue n t o bytes r → compared_with n t o bytes ≡ r
     comparing-replies (due.table fault e) = compared-table o fault e
@@ -377,25 +376,25 @@ order-exact state bytes r = compared-exact (types_in state) (table_in state) byt
 
 -- Finish.
 module _ (n : ℕ) (t out : List ℕ) (o : Option (List ℕ)) where
-  abbrev finished_by : Opened → Result
+  abbrev finished_by : TableAnswer → Result
   finished_by x = checked (λ r. refusing r out) x (finished_with n o out)
 
-  finished-nothing : opened n t ≡ Accepted → o ≡ none → finished_by (opened n t) ≡ refusing NothingGathered out
+  finished-nothing : opened n t ≡ Ok tt → o ≡ none → finished_by (opened n t) ≡ refusing NothingGathered out
   finished-nothing opens is = ap finished_by opens ∙ ap (λ (p : Option (List ℕ)). finished_with n p out) is
 
-  finished-gathered : (part : List ℕ) (fault : GraphFault) → opened n t ≡ Accepted → o ≡ some part → reading n part ≡ refused fault →
+  finished-gathered : (part : List ℕ) (fault : GraphFault) → opened n t ≡ Ok tt → o ≡ some part → reading n part ≡ refused fault →
       finished_by (opened n t) ≡ refusing (OfGraph fault Second) out
   finished-gathered part fault opens is e =
       ap finished_by opens ∙ ap (λ (p : Option (List ℕ)). finished_with n p out) is ∙ ap (λ (x : Reading). written_from x out) e
 
-  finished-writing : (part : List ℕ) (rows : List (Row Label)) → opened n t ≡ Accepted → o ≡ some part → reading n part ≡ accepted rows →
+  finished-writing : (part : List ℕ) (rows : List (Row Label)) → opened n t ≡ Ok tt → o ≡ some part → reading n part ≡ accepted rows →
       finished_by (opened n t) ≡ writing (record_of eqb (graph_of_rows rows)) out
   finished-writing part rows opens is e =
       ap finished_by opens ∙ ap (λ (p : Option (List ℕ)). finished_with n p out) is ∙ ap (λ (x : Reading). written_from x out) e ∙
       result-record eqb (graph_of_rows rows) out
 
   -- Finishing writes the record of what is gathered.
-  finished-new : (part : List ℕ) (rows : List (Row Label)) (new : List ℕ) → opened n t ≡ Accepted → o ≡ some part → reading n part ≡ accepted rows →
+  finished-new : (part : List ℕ) (rows : List (Row Label)) (new : List ℕ) → opened n t ≡ Ok tt → o ≡ some part → reading n part ≡ accepted rows →
       RecordOf n t (graph_of_rows rows) new → finished_by (opened n t) ≡ result_of (fitted new out)
   finished-new part rows new opens is e one =
       finished-writing part rows opens is e ∙
@@ -407,29 +406,29 @@ module _ (n : ℕ) (t out : List ℕ) (o : Option (List ℕ)) where
       from : {x y : Result} → x ≡ y → FinishDue n t o (length out) y.reply → FinishDue n t o (length out) x.reply
       from e d = subst (λ (z : Result). FinishDue n t o (length out) z.reply) (sym e) d
 
-      wrote : (part : List ℕ) (rows : List (Row Label)) → opened n t ≡ Accepted → o ≡ some part → reading n part ≡ accepted rows → {r : Reply} →
+      wrote : (part : List ℕ) (rows : List (Row Label)) → opened n t ≡ Ok tt → o ≡ some part → reading n part ≡ accepted rows → {r : Reply} →
           WriteDue n t (graph_of_rows rows) (length out) r → FinishDue n t o (length out) r
       wrote part rows opens is e (too_large large) = absurd (program-small n t part out opens rows e large)
       wrote part rows opens is e (no_room new one less) = due.no_room part rows new opens is e one less
       wrote part rows opens is e (fits new one fit) = due.fits part rows new opens is e one fit
 
-      read : opened n t ≡ Accepted → (part : List ℕ) → o ≡ some part → (x : Reading) → reading n part ≡ x →
+      read : opened n t ≡ Ok tt → (part : List ℕ) → o ≡ some part → (x : Reading) → reading n part ≡ x →
           FinishDue n t o (length out) (finished_by (opened n t)).reply
       read opens part is (refused fault) e = from (finished-gathered part fault opens is e) (due.gathered part fault opens is e)
       read opens part is (accepted rows) e =
           from (finished-writing part rows opens is e)
           (wrote part rows opens is e (writing-due n t (graph_of_rows rows) opens eqb tells-eqb (accepted-of-any-size n part rows e t) out))
 
-      held : opened n t ≡ Accepted → (p : Option (List ℕ)) → o ≡ p → FinishDue n t o (length out) (finished_by (opened n t)).reply
+      held : opened n t ≡ Ok tt → (p : Option (List ℕ)) → o ≡ p → FinishDue n t o (length out) (finished_by (opened n t)).reply
       held opens none is = from (finished-nothing opens is) (due.nothing opens is)
       held opens (some part) is = read opens part is (reading n part) refl
 
-      table : (x : Opened) → opened n t ≡ x → FinishDue n t o (length out) (finished_by (opened n t)).reply
-      table (Refused fault) e = from (ap finished_by e) (due.table fault e)
-      table Accepted e = held e o refl
+      table : (x : TableAnswer) → opened n t ≡ x → FinishDue n t o (length out) (finished_by (opened n t)).reply
+      table (Err fault) e = from (ap finished_by e) (due.table fault e)
+      table (Ok tt) e = held e o refl
 
   finished-replies : {r : Reply} → FinishDue n t o (length out) r → (finished_by (opened n t)).reply ≡ r
-  finished-replies (due.table fault e) = ap (λ (x : Opened). (finished_by x).reply) e
+  finished-replies (due.table fault e) = ap (λ (x : TableAnswer). (finished_by x).reply) e
   finished-replies (due.nothing opens is) = ap (λ (y : Result). y.reply) (finished-nothing opens is)
   finished-replies (due.gathered part fault opens is e) = ap (λ (y : Result). y.reply) (finished-gathered part fault opens is e)
   finished-replies (due.no_room part rows new opens is e one less) =

@@ -9,8 +9,7 @@ use borrow.Author.Tests.{ne_eqb}
 use lib.ListN.{length, take, drop, length-append, length-drop, take-append-drop}
 use lib.Seq.{take-append_seam, drop-append_seam}
 use Rattle.graphs.proofs.Walk.{some-injective}
-use Rattle.acceptance.specs.declared.Opened.{Opened}
-use Rattle.acceptance.specs.Reply.{opened}
+use Rattle.acceptance.specs.Reply.{opened, TableAnswer}
 use Rattle.replies.specs.Reply.{Result, length_of, resulting}
 use Rattle.calls.specs.Calls.{checked}
 use Rattle.demands.specs.Demand.{WrittenRecord, Leaves}
@@ -104,7 +103,7 @@ module _ (n : ℕ) (t state : List ℕ) (o : Option (List ℕ)) (holds : Holds n
   finishing-is out =
       ap (λ (k : ℕ). checked (λ r. resulting r out) (opened k (table_in state)) (finished_with k (gathered_in state) out)) types_are ∙
       ap₂ (λ (u : List ℕ) (p : Option (List ℕ)). checked (λ r. resulting r out) (opened n u) (finished_with n p out)) table-are gathered-are ∙
-      ap (λ (x : Opened). checked (λ r. resulting r out) x (finished_with n o out)) holds.opens
+      ap (λ (x : TableAnswer). checked (λ r. resulting r out) x (finished_with n o out)) holds.opens
 
   -- What the state holds after an addition.
   abbrev After : Option ℕ → Result → Type 0

@@ -12,7 +12,7 @@ use Rattle.graphs.specs.Rows.{Row}
 use Rattle.graphs.proofs.Below.{same_refl}
 use Rattle.lattice.specs.Label.{Label}
 use Rattle.lattice.specs.Table as table
-use Rattle.acceptance.specs.declared.Opened.TheVariants.{Accepted}
+use Rattle.std.specs.Prelude.{Ok}
 use Rattle.acceptance.specs.Reply.{opened}
 use Rattle.lattice.specs.Labels.{table_labels, OfAnySize}
 use Rattle.lattice.proofs.AnySize.{below-transitive, below_both}
@@ -31,7 +31,7 @@ use Rattle.gathered.proofs.Mixture.{adding-kept}
 use Rattle.gathered.proofs.Records.{rewriting-refused, generalizing-refused, joining-leaves, joining-room}
 use Rattle.gathered.proofs.Holding.{head-are, adding-is, adding-holds, adding-answer}
 
-module _ (n : ℕ) (t : List ℕ) (opens : opened n t ≡ Accepted) where
+module _ (n : ℕ) (t : List ℕ) (opens : opened n t ≡ Ok tt) where
   ok : table.accepted n t ≡ true
   ok = opened-accepted n t (opened n t) refl opens
 

@@ -10,14 +10,14 @@ use lib.ListN.{length, drop}
 use Rattle.graphs.specs.Rows.{Row}
 use Rattle.lattice.specs.Label.{Label}
 use Rattle.acceptance.specs.declared.TableFault.{TableFault}
-use Rattle.acceptance.specs.declared.Opened.TheVariants.{Refused}
+use Rattle.std.specs.Prelude.{Err}
 use Rattle.acceptance.specs.Reply.{opened}
 use Rattle.encode.specs.Encode.{fitted}
 use Rattle.record.specs.declared.GraphFault.{GraphFault}
 use Rattle.record.specs.Read.{reading, accepted, refused, graph_of_rows}
 use Rattle.replies.specs.declared.Side.TheVariants.{First}
-use Rattle.replies.specs.declared.Reply.{Reply}
-use Rattle.replies.specs.declared.Reply.TheVariants.{Length, Table, Graph, NoRoom, TooLarge, NothingGathered}
+use Rattle.replies.specs.Replies.{Reply}
+use Rattle.replies.specs.Replies.{Length, Table, Graph, NoRoom, TooLarge, NothingGathered}
 use Rattle.replies.specs.Reply.{refusing, result_of, refusal}
 use Rattle.calls.specs.Calls.{rewriting, ordering}
 use Rattle.demands.specs.Demand.{WrittenRecord, RecordOf, Large, common}
@@ -89,7 +89,7 @@ module _ (n : ℕ) (t buffer : List ℕ) where
   begin-leaves = Exact.begin-leaves n t buffer
 
   -- "A gathering is begun with one accepted table": 1 to 3 come first.
-  pub begun-table : (fault : TableFault) → opened n t ≡ Refused fault → begun n t buffer ≡ refusing (Table fault) buffer
+  pub begun-table : (fault : TableFault) → opened n t ≡ Err fault → begun n t buffer ≡ refusing (Table fault) buffer
   unfolding begun
   begun-table fault e = rw e
 

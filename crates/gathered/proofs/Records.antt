@@ -10,23 +10,23 @@ use borrow.Author.Tests.{le-leb}
 use lib.Dec.{leb, eqb}
 use lib.ListN.{length, drop, length-replicate}
 use lib.Seq.{take-append_seam}
+use Rattle.std.specs.Prelude.{Ok, Err}
 use Rattle.graphs.specs.Graph.{Graph}
 use Rattle.graphs.specs.Number.{Canonical, canonical, many_nodes, many_links, written}
 use Rattle.graphs.specs.Rows.{Row}
 use Rattle.graphs.specs.OfRows.{same_pair}
 use Rattle.lattice.specs.Label.{Label}
-use Rattle.acceptance.specs.declared.Opened.TheVariants.{Accepted}
 use Rattle.acceptance.specs.Reply.{opened}
 use Rattle.encoder.specs.Encode.{encoded}
-use Rattle.encode.specs.declared.Written.TheVariants as outcome
+use Rattle.encode.specs.declared.Unwritten.TheVariants as unwritten
 use Rattle.encode.specs.Encode.{fitted, yielding, written_out}
 use Rattle.encoder.proofs.Lengths.{longest}
 use Rattle.record.specs.declared.GraphFault.{GraphFault}
 use Rattle.record.specs.Read.{Reading, refused, reading, accepted, graph_of_rows}
 use Rattle.record.proofs.Accepted.{accepted-rules}
 use Rattle.replies.specs.declared.Side.TheVariants.{First}
-use Rattle.replies.specs.declared.Reply.{Reply}
-use Rattle.replies.specs.declared.Reply.TheVariants.{Graph as OfGraph, TooLarge}
+use Rattle.replies.specs.Replies.{Reply}
+use Rattle.replies.specs.Replies.{Graph as OfGraph, TooLarge}
 use Rattle.replies.specs.Reply.{Result, refusing, result_of, length_of}
 use Rattle.engine.specs.Generalizing.{generalized}
 use Rattle.calls.specs.Calls.{generalizing, rewriting}
@@ -54,7 +54,7 @@ written-short n b one =
 pub taken-fitted : (p out : List ℕ) → length p ≤ length out → taken (result_of (fitted p out)) ≡ some p
 unfolding fitted
 taken-fitted p out h =
-    ap (λ (b : Bool). taken (result_of (cond b (yielding (outcome.Length (length p)) (p ++ drop (length p) out)) (yielding outcome.NoRoom out))))
+    ap (λ (b : Bool). taken (result_of (cond b (yielding (Ok (length p)) (p ++ drop (length p) out)) (yielding (Err unwritten.NoRoom) out))))
     (le-leb (length p) (length out) h) ∙
     ap some (take-append_seam p (drop (length p) out))
 
@@ -74,7 +74,7 @@ module _ (n : ℕ) {C : Type 0} (same : C → C → Bool) (k : Graph Label C) (c
       length-bounded n bytes bytes (call bytes) (leaves bytes) (length bytes)
       (ap (λ (r : Result). r.reply)
       (is bytes ∙ ap (λ (c : Canonical Label). result_of (written_out c bytes)) e ∙
-      ap (λ (b : Bool). result_of (cond b (yielding (outcome.Length (length bytes)) (bytes ++ drop (length bytes) bytes)) (yielding outcome.NoRoom bytes)))
+      ap (λ (b : Bool). result_of (cond b (yielding (Ok (length bytes)) (bytes ++ drop (length bytes) bytes)) (yielding (Err unwritten.NoRoom) bytes)))
       (le-leb (length bytes) (length bytes) (omega arith))))
 
   call-record : (out : List ℕ) → 4854 ≤ length out → taken (call out) ≡ record_of (canonical same k)
@@ -102,14 +102,14 @@ module _ (n : ℕ) {C : Type 0} (same : C → C → Bool) (k : Graph Label C) (c
       go (written form) q d =
           let fits : leb (length (encoded form)) (length out) ≡ true = le-leb (length (encoded form)) (length out) (omega (arith, form-short form q)) in
           none-some (sym d ∙
-          ap (λ (b : Bool). length_of (result_of (cond b (yielding (outcome.Length (length (encoded form))) (encoded form ++ drop (length (encoded form)) out)) (yielding outcome.NoRoom out))).reply) fits)
+          ap (λ (b : Bool). length_of (result_of (cond b (yielding (Ok (length (encoded form))) (encoded form ++ drop (length (encoded form)) out)) (yielding (Err unwritten.NoRoom) out))).reply) fits)
 
 -- The reason of a refused addition: the program's 4 to 7, or 11 once something is gathered.
 abbrev pub Why : ℕ → List ℕ → Option (List ℕ) → Reply → Type 0
 Why n bytes o r =
     ((fault : GraphFault) × (reading n bytes ≡ refused fault) × (r ≡ OfGraph fault First)) ⊎ ((part : List ℕ) × (o ≡ some part) × (r ≡ TooLarge))
 
-module _ (n : ℕ) (t : List ℕ) (opens : opened n t ≡ Accepted) where
+module _ (n : ℕ) (t : List ℕ) (opens : opened n t ≡ Ok tt) where
   pub joining-leaves : (o : Option (List ℕ)) (bytes out : List ℕ) → Leaves n out (joining n t o bytes out)
   joining-leaves none bytes out = rewriting-leaves n t out bytes
   joining-leaves (some part) bytes out = generalizing-leaves n t out bytes part

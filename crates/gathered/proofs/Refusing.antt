@@ -6,16 +6,15 @@ use mathlib.Core.Option.{Option, none, some}
 use Prim.Native.Nat.{ℕ, ◌+◌, ◌*◌}
 use lib.Dec.{eqb, leb}
 use lib.ListN.{length, drop}
+use Rattle.std.specs.Prelude.{Ok, Err}
 use Rattle.graphs.specs.Number.{Canonical, canonical, many_nodes, many_links, written}
 use Rattle.lattice.specs.Label.{Label}
-use Rattle.acceptance.specs.declared.Opened.{Opened}
-use Rattle.acceptance.specs.declared.Opened.TheVariants as table
-use Rattle.acceptance.specs.Reply.{opened}
+use Rattle.acceptance.specs.Reply.{opened, TableAnswer}
 use Rattle.encoder.specs.Encode.{encoded}
-use Rattle.encode.specs.declared.Written.TheVariants as outcome
+use Rattle.encode.specs.declared.Unwritten.TheVariants as unwritten
 use Rattle.encode.specs.Encode.{yielding, fitted, written_out}
 use Rattle.record.specs.Read.{Reading, refused, accepted, reading, graph_of_rows}
-use Rattle.replies.specs.declared.Reply.TheVariants.{Length, NoRoom}
+use Rattle.replies.specs.Replies.{Length, NoRoom}
 use Rattle.replies.specs.Reply.{result_of, resulting, refusal}
 use Rattle.calls.specs.Calls.{checked}
 use Rattle.gathering.specs.Gathering.{
@@ -41,7 +40,7 @@ begin-refused n t buffer k e = go (opened n t) e
     inside true d = none-some d
     inside false d = refl
 
-    go : (o : Opened) →
+    go : (o : TableAnswer) →
         refusal
         (checked (λ r. resulting r buffer) o
         (cond (leb (1 + 8 * n + 2 + 4854) (length buffer))
@@ -51,8 +50,8 @@ begin-refused n t buffer k e = go (opened n t) e
         (cond (leb (1 + 8 * n + 2 + 4854) (length buffer))
         (resulting (Length (3 + 8 * n)) (state_of n t [] (drop (3 + 8 * n) buffer)))
         (resulting NoRoom buffer))).output ≡ buffer
-    go (table.Refused fault) d = refl
-    go table.Accepted d = inside (leb (1 + 8 * n + 2 + 4854) (length buffer)) d
+    go (Err fault) d = refl
+    go (Ok tt) d = inside (leb (1 + 8 * n + 2 + 4854) (length buffer)) d
 
 pub finish-refused : (state out : List ℕ) (k : ℕ) → refusal (finishing state out).reply ≡ some k → (finishing state out).output ≡ out
 unfolding finishing written_out fitted
@@ -60,8 +59,8 @@ finish-refused state out k e = go (opened (types_in state) (table_in state)) (ga
   where
     fits : (bytes : List ℕ) (b : Bool) →
         refusal
-        (result_of (cond b (yielding (outcome.Length (length bytes)) (bytes ++ drop (length bytes) out)) (yielding outcome.NoRoom out))).reply ≡ some k →
-        (result_of (cond b (yielding (outcome.Length (length bytes)) (bytes ++ drop (length bytes) out)) (yielding outcome.NoRoom out))).output ≡ out
+        (result_of (cond b (yielding (Ok (length bytes)) (bytes ++ drop (length bytes) out)) (yielding (Err unwritten.NoRoom) out))).reply ≡ some k →
+        (result_of (cond b (yielding (Ok (length bytes)) (bytes ++ drop (length bytes) out)) (yielding (Err unwritten.NoRoom) out))).output ≡ out
     fits bytes true d = none-some d
     fits bytes false d = refl
 
@@ -74,9 +73,9 @@ finish-refused state out k e = go (opened (types_in state) (table_in state)) (ga
     reads (refused fault) d = refl
     reads (accepted rows) d = writes (canonical eqb (graph_of_rows rows)) d
 
-    go : (o : Opened) (p : Option (List ℕ)) →
+    go : (o : TableAnswer) (p : Option (List ℕ)) →
         refusal (checked (λ r. resulting r out) o (finished_with (types_in state) p out)).reply ≡ some k →
         (checked (λ r. resulting r out) o (finished_with (types_in state) p out)).output ≡ out
-    go (table.Refused fault) p d = refl
-    go table.Accepted none d = refl
-    go table.Accepted (some part) d = reads (reading (types_in state) part) d
+    go (Err fault) p d = refl
+    go (Ok tt) none d = refl
+    go (Ok tt) (some part) d = reads (reading (types_in state) part) d

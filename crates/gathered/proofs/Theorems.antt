@@ -11,22 +11,20 @@ use native.Mathlib.Omega.{arith}
 use borrow.Author.Tests.{leb-true, le-leb}
 use lib.Dec.{leb, eqb}
 use lib.ListN.{length, take, drop, length-drop}
+use Rattle.std.specs.Prelude.{Ok, Err}
 use Rattle.graphs.specs.Rows.{Row}
 use Rattle.graphs.specs.Number.{canonical}
 use Rattle.graphs.proofs.Walk.{some-injective}
 use Rattle.lattice.specs.Label.{Label}
-use Rattle.acceptance.specs.declared.Opened.{Opened}
-use Rattle.acceptance.specs.declared.Opened.TheVariants as table
-use Rattle.acceptance.specs.Reply.{opened}
-use Rattle.encode.specs.declared.Written.{Written}
-use Rattle.encode.specs.declared.Written.TheVariants as outcome
-use Rattle.encode.specs.Encode.{yielding, fitted, written_out}
+use Rattle.acceptance.specs.Reply.{opened, TableAnswer}
+use Rattle.encode.specs.declared.Unwritten.TheVariants as unwritten
+use Rattle.encode.specs.Encode.{yielding, fitted, written_out, Writing}
 use Rattle.decode.specs.Decode.{decoded}
 use Rattle.record.specs.declared.GraphFault.{GraphFault}
 use Rattle.record.specs.declared.GraphFault.TheVariants.{Malformed, OutOfRange, Cyclic, Unreached}
 use Rattle.record.specs.Read.{Reading, refused, accepted, reading, judged, in_range, cyclic, reaches_all, graph_of_rows, graph_number}
-use Rattle.replies.specs.declared.Reply.{Reply}
-use Rattle.replies.specs.declared.Reply.TheVariants.{Length, NoRoom, NothingGathered}
+use Rattle.replies.specs.Replies.{Reply}
+use Rattle.replies.specs.Replies.{Length, NoRoom, NothingGathered}
 use Rattle.replies.specs.Reply.{Result, resulting, refusing, reply_of, result_of, refusal, length_of}
 use Rattle.pairs.specs.Pair.{read_both}
 use Rattle.subsume.specs.Promise.{rows_below}
@@ -73,7 +71,7 @@ module _ (n : ℕ) (t : List ℕ) where
   unfolding begun
   begun-holds buffer l e = go (opened n t) refl e
     where
-      inside : opened n t ≡ table.Accepted → (b : Bool) → leb (1 + 8 * n + 2 + 4854) (length buffer) ≡ b →
+      inside : opened n t ≡ Ok tt → (b : Bool) → leb (1 + 8 * n + 2 + 4854) (length buffer) ≡ b →
           (cond b
           (resulting (Length (3 + 8 * n)) (state_of n t [] (drop (3 + 8 * n) buffer)))
           (resulting NoRoom buffer)).reply ≡ (Length l) →
@@ -89,7 +87,7 @@ module _ (n : ℕ) (t : List ℕ) where
           }
       inside opens false q d = let z : ◌≡◌ {A = ℕ} 0 1 = cc in absurd (omega arith)
 
-      go : (o : Opened) → opened n t ≡ o →
+      go : (o : TableAnswer) → opened n t ≡ o →
           (checked (λ r. resulting r buffer) o
           (cond (leb (1 + 8 * n + 2 + 4854) (length buffer))
           (resulting (Length (3 + 8 * n)) (state_of n t [] (drop (3 + 8 * n) buffer)))
@@ -99,21 +97,21 @@ module _ (n : ℕ) (t : List ℕ) where
           (cond (leb (1 + 8 * n + 2 + 4854) (length buffer))
           (resulting (Length (3 + 8 * n)) (state_of n t [] (drop (3 + 8 * n) buffer)))
           (resulting NoRoom buffer))).output none
-      go (table.Refused fault) q d = let z : ◌≡◌ {A = ℕ} 0 1 = cc in absurd (omega arith)
-      go table.Accepted q d = inside q (leb (1 + 8 * n + 2 + 4854) (length buffer)) refl d
+      go (Err fault) q d = let z : ◌≡◌ {A = ℕ} 0 1 = cc in absurd (omega arith)
+      go (Ok tt) q d = inside q (leb (1 + 8 * n + 2 + 4854) (length buffer)) refl d
 
   -- 5,369 bytes are enough for every table.
   pub begin-enough : (buffer : List ℕ) → 5369 ≤ length buffer → (begun n t buffer).reply ≡ NoRoom → ⊥
   unfolding begun
   begin-enough buffer h e = go (opened n t) refl e
     where
-      go : (o : Opened) → opened n t ≡ o →
+      go : (o : TableAnswer) → opened n t ≡ o →
           (checked (λ r. refusing r buffer) o
           (cond (leb (1 + 8 * n + 2 + 4854) (length buffer))
           (resulting (Length (3 + 8 * n)) (state_of n t [] (drop (3 + 8 * n) buffer)))
           (refusing NoRoom buffer))).reply ≡ NoRoom → ⊥
-      go (table.Refused fault) q d = let z : ◌≡◌ {A = ℕ} 0 1 = cc in omega arith
-      go table.Accepted q d =
+      go (Err fault) q d = let z : ◌≡◌ {A = ℕ} 0 1 = cc in omega arith
+      go (Ok tt) q d =
           let fits : leb (1 + 8 * n + 2 + 4854) (length buffer) ≡ true =
           le-leb (1 + 8 * n + 2 + 4854) (length buffer) (omega (arith, h, few-types n t (opened n t) refl q)) in
           let told : ◌≡◌ {A = Reply} (Length (3 + 8 * n)) NoRoom =
@@ -184,16 +182,16 @@ ordering-gathered n t a b e = go (opened n t) (reading n a) (reading n b) e
     four false true d = let z : ◌≡◌ {A = ℕ} 0 1 = cc in omega arith
     four false false d = let z : ◌≡◌ {A = ℕ} 0 1 = cc in omega arith
 
-    go : (x : Opened) (p q : Reading) → checked (λ r. r) x (read_both (λ r. r) p q (ordered n t)) ≡ NothingGathered → ⊥
-    go (table.Refused fault) p q d = let z : ◌≡◌ {A = ℕ} 0 1 = cc in omega arith
-    go table.Accepted (refused fault) q d = let z : ◌≡◌ {A = ℕ} 0 1 = cc in omega arith
-    go table.Accepted (accepted rows) (refused fault) d = let z : ◌≡◌ {A = ℕ} 0 1 = cc in omega arith
-    go table.Accepted (accepted s) (accepted g) d = four (rows_below n t s g) (rows_below n t g s) d
+    go : (x : TableAnswer) (p q : Reading) → checked (λ r. r) x (read_both (λ r. r) p q (ordered n t)) ≡ NothingGathered → ⊥
+    go (Err fault) p q d = let z : ◌≡◌ {A = ℕ} 0 1 = cc in omega arith
+    go (Ok tt) (refused fault) q d = let z : ◌≡◌ {A = ℕ} 0 1 = cc in omega arith
+    go (Ok tt) (accepted rows) (refused fault) d = let z : ◌≡◌ {A = ℕ} 0 1 = cc in omega arith
+    go (Ok tt) (accepted s) (accepted g) d = four (rows_below n t s g) (rows_below n t g s) d
 
-written-gathered : (w : Written) → reply_of w ≡ NothingGathered → ⊥
-written-gathered (outcome.Length l) e = let z : ◌≡◌ {A = ℕ} 0 1 = cc in omega arith
-written-gathered outcome.TooLarge e = let z : ◌≡◌ {A = ℕ} 0 1 = cc in omega arith
-written-gathered outcome.NoRoom e = let z : ◌≡◌ {A = ℕ} 0 1 = cc in omega arith
+written-gathered : (w : Writing) → reply_of w ≡ NothingGathered → ⊥
+written-gathered (Ok l) e = let z : ◌≡◌ {A = ℕ} 0 1 = cc in omega arith
+written-gathered (Err unwritten.TooLarge) e = let z : ◌≡◌ {A = ℕ} 0 1 = cc in omega arith
+written-gathered (Err unwritten.NoRoom) e = let z : ◌≡◌ {A = ℕ} 0 1 = cc in omega arith
 
 module _ (n : ℕ) (t state : List ℕ) (o : Option (List ℕ)) (holds : Holds n t state o) where
   -- An addition is refused by the program's 4 to 7, as the first graph, or by 11 once something is gathered.
@@ -242,13 +240,13 @@ module _ (n : ℕ) (t state : List ℕ) (o : Option (List ℕ)) (holds : Holds n
 
       there : (p : Option (List ℕ)) → compared_with n t p bytes ≡ NothingGathered → (p ≡ none) × ((rows : List (Row Label)) × (reading n bytes ≡ accepted rows))
       there none e =
-          (refl, reads (reading n bytes) (sym (ap (λ (x : Opened). checked (λ r. r) x (nothing_after (reading n bytes))) holds.opens) ∙ e))
+          (refl, reads (reading n bytes) (sym (ap (λ (x : TableAnswer). checked (λ r. r) x (nothing_after (reading n bytes))) holds.opens) ∙ e))
       there (some part) e = absurd (ordering-gathered n t bytes part e)
 
       back : (o ≡ none) × ((rows : List (Row Label)) × (reading n bytes ≡ accepted rows)) → compared_with n t o bytes ≡ NothingGathered
       back (e, (rows, d)) =
           ap (λ (p : Option (List ℕ)). compared_with n t p bytes) e ∙
-          ap₂ (λ (x : Opened) (r : Reading). checked (λ r. r) x (nothing_after r)) holds.opens d
+          ap₂ (λ (x : TableAnswer) (r : Reading). checked (λ r. r) x (nothing_after r)) holds.opens d
 
   -- 6. "Finishing writes the common part", or answers 8.
   pub finish-is : (out part : List ℕ) → o ≡ some part → finishing state out ≡ result_of (fitted part out)
@@ -300,10 +298,10 @@ module _ (n : ℕ) (t state : List ℕ) (o : Option (List ℕ)) (holds : Holds n
           ((4 ≤ k) × (k ≤ 7)) ⊎ (k ≡ 16)
       go none w d =
           nothing (reading n bytes) refl
-          (sym (ap (λ (x : Opened). refusal (checked (λ r. r) x (nothing_after (reading n bytes)))) holds.opens) ∙ d)
+          (sym (ap (λ (x : TableAnswer). refusal (checked (λ r. r) x (nothing_after (reading n bytes)))) holds.opens) ∙ d)
       go (some part) w d =
           both (w part refl).form (reading n bytes) refl
-          (sym (ap₂ (λ (x : Opened) (r : Reading). refusal (checked (λ r. r) x (read_both (λ q. q) (reading n bytes) r (ordered n t)))) holds.opens (w part refl).reads) ∙ d)
+          (sym (ap₂ (λ (x : TableAnswer) (r : Reading). refusal (checked (λ r. r) x (read_both (λ q. q) (reading n bytes) r (ordered n t)))) holds.opens (w part refl).reads) ∙ d)
 
   pub finish-numbers : (out : List ℕ) (k : ℕ) → refusal (finishing state out).reply ≡ some k → (k ≡ 16) ⊎ (k ≡ 8)
   unfolding fitted
@@ -311,7 +309,7 @@ module _ (n : ℕ) (t state : List ℕ) (o : Option (List ℕ)) (holds : Holds n
     where
       room : (bytes : List ℕ) (b : Bool) →
           refusal
-          (result_of (cond b (yielding (outcome.Length (length bytes)) (bytes ++ drop (length bytes) out)) (yielding outcome.NoRoom out))).reply ≡ some k →
+          (result_of (cond b (yielding (Ok (length bytes)) (bytes ++ drop (length bytes) out)) (yielding (Err unwritten.NoRoom) out))).reply ≡ some k →
           (k ≡ 16) ⊎ (k ≡ 8)
       room bytes true d = none-some d
       room bytes false d = inr (sym (some-injective d))

@@ -1,12 +1,11 @@
 -- Definitions for the theorems on gatherings: what a state of a begun gathering is, and which graph is gathered among all graphs of any size.
-use Rattle.std.specs.Prelude.{◌≡◌, ℕ, ◌≤◌, length}
+use Rattle.std.specs.Prelude.{◌≡◌, ℕ, ◌≤◌, length, Ok}
 use mathlib.Core.List.{List, [], ◌++◌, Memᴰ}
 use Rattle.std.proofs.Math.Option.{Option, none, some}
 use Rattle.graphs.specs.Graph.{Graph, Below}
 use Rattle.graphs.specs.Rows.{Row}
 use Rattle.lattice.specs.Label.{Label}
 use Rattle.lattice.specs.Labels.{table_labels, OfAnySize}
-use Rattle.acceptance.specs.declared.Opened.TheVariants.{Accepted}
 use Rattle.acceptance.specs.Reply.{opened}
 use Rattle.record.specs.Read.{reading, accepted, graph_of_rows}
 use Rattle.demands.specs.Demand.{WrittenRecord}
@@ -20,7 +19,7 @@ bytes_of (some part) = part
 -- The state is one of a begun gathering: it has an accepted table, the written record of the common part if there is one, and room for the
 -- longest record.
 pub record Holds (n : ℕ) (t state : List ℕ) (o : Option (List ℕ)) : Type 0 where
-  pub opens : opened n t ≡ Accepted
+  pub opens : opened n t ≡ Ok tt
   pub written : (part : List ℕ) → o ≡ some part → WrittenRecord n part
   pub rest : List ℕ
   pub room : 4854 ≤ length (bytes_of o ++ rest)

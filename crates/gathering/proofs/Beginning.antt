@@ -9,19 +9,18 @@ use lib.Dec.{leb}
 use lib.ListN.{length, take, drop, set, length-set}
 use lib.Seq.{take-length, take-suc-set, drop-set-lt, drop-drop, paste, take-paste, drop-paste}
 use Rattle.acceptance.specs.declared.TableFault.{TableFault}
-use Rattle.acceptance.specs.declared.Opened.{Opened}
-use Rattle.acceptance.specs.declared.Opened.TheVariants as table
-use Rattle.acceptance.specs.Reply.{opened}
+use Rattle.std.specs.Prelude.{Ok, Err}
+use Rattle.acceptance.specs.Reply.{opened, TableAnswer}
 use Rattle.lattice.proofs.Laws.{accepted-size}
 use Rattle.acceptance.proofs.Acceptance.{opened-accepted}
-use Rattle.replies.specs.declared.Reply.TheVariants.{Length, Table, NoRoom}
+use Rattle.replies.specs.Replies.{Length, Table, NoRoom}
 use Rattle.replies.specs.Reply.{Result, resulting, refusing}
 use Rattle.calls.specs.Calls.{checked}
 use Rattle.gathering.specs.Gathering.{two_bytes, state_of, begun}
 
-module _ (n : ℕ) (t : List ℕ) {answer : Opened} (told : answer ≡ opened n t) where
+module _ (n : ℕ) (t : List ℕ) {answer : TableAnswer} (told : answer ≡ opened n t) where
   -- an accepted table has 8 × n bytes
-  pub table-long : answer ≡ table.Accepted → length t ≡ 8 * n
+  pub table-long : answer ≡ Ok tt → length t ≡ 8 * n
   table-long e = (accepted-size n t (opened-accepted n t answer told e)).2
 
   module _ (state : List ℕ) where
@@ -30,21 +29,21 @@ module _ (n : ℕ) (t : List ℕ) {answer : Opened} (told : answer ≡ opened n 
 
     begun-checked : begun n t state ≡ checked (λ r. refusing r state) answer (begins (leb (1 + 8 * n + 2 + 4854) (length state)))
     unfolding begun
-    begun-checked = ap (λ (o : Opened). checked (λ r. refusing r state) o (begins (leb (1 + 8 * n + 2 + 4854) (length state)))) (sym told)
+    begun-checked = ap (λ (o : TableAnswer). checked (λ r. refusing r state) o (begins (leb (1 + 8 * n + 2 + 4854) (length state)))) (sym told)
 
-    pub begun-refused : (fault : TableFault) → answer ≡ table.Refused fault → resulting (Table fault) state ≡ begun n t state
+    pub begun-refused : (fault : TableFault) → answer ≡ Err fault → resulting (Table fault) state ≡ begun n t state
     begun-refused fault e =
-        sym (begun-checked ∙ ap (λ (o : Opened). checked (λ r. refusing r state) o (begins (leb (1 + 8 * n + 2 + 4854) (length state)))) e)
+        sym (begun-checked ∙ ap (λ (o : TableAnswer). checked (λ r. refusing r state) o (begins (leb (1 + 8 * n + 2 + 4854) (length state)))) e)
 
-    begun-accepted : answer ≡ table.Accepted → (b : Bool) → leb (1 + 8 * n + 2 + 4854) (length state) ≡ b → begins b ≡ begun n t state
+    begun-accepted : answer ≡ Ok tt → (b : Bool) → leb (1 + 8 * n + 2 + 4854) (length state) ≡ b → begins b ≡ begun n t state
     begun-accepted e b q =
-        sym (begun-checked ∙ ap₂ (λ (o : Opened) (c : Bool). checked (λ r. refusing r state) o (begins c)) e q)
+        sym (begun-checked ∙ ap₂ (λ (o : TableAnswer) (c : Bool). checked (λ r. refusing r state) o (begins c)) e q)
 
-    pub begun-short : answer ≡ table.Accepted → length state < 1 + 8 * n + 2 + 4854 → resulting NoRoom state ≡ begun n t state
+    pub begun-short : answer ≡ Ok tt → length state < 1 + 8 * n + 2 + 4854 → resulting NoRoom state ≡ begun n t state
     begun-short e h = begun-accepted e false (lt-leb (1 + 8 * n + 2 + 4854) (length state) h)
 
     -- n, the table and a length of 0 are stored.
-    module _ (accepts : answer ≡ table.Accepted) (room : 1 + 8 * n + 2 + 4854 ≤ length state) where
+    module _ (accepts : answer ≡ Ok tt) (room : 1 + 8 * n + 2 + 4854 ≤ length state) where
       abbrev one : List ℕ
       one = set state 0 n
 

@@ -18,7 +18,7 @@ use Rattle.encode.specs.Encode.{fitted, written_out}
 use Rattle.peeling.specs.Range.{label_in_range}
 use Rattle.record.specs.Read.{in_range, cyclic, reaches_all, reading}
 use Rattle.record.specs.declared.GraphFault.TheVariants.{Malformed}
-use Rattle.replies.specs.declared.Reply.TheVariants.{Length, NoRoom, Same, Under, Above, Table, Graph, NothingGathered}
+use Rattle.replies.specs.Replies.{Length, NoRoom, Same, Under, Above, Table, Graph, NothingGathered}
 use Rattle.replies.specs.declared.Side.TheVariants.{First, Second}
 use Rattle.replies.specs.Reply.{resulting}
 use Rattle.orders.specs.Ordering.{ordered as orderedRows}

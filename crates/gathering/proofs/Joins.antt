@@ -9,25 +9,22 @@ use borrow.Author.Tests.{leb-true, ne_eqb}
 use lib.Dec.{leb, eqb}
 use lib.ListN.{length, take, drop, length-append, length-drop, take-append-drop, drop_of_length-le}
 use lib.Seq.{take_all, length-take-le, take-take, take-append-le, drop_at}
+use Rattle.std.specs.Prelude.{Ok, Err}
 use Rattle.graphs.specs.Rows.{Row}
 use Rattle.graphs.specs.Number.{Canonical, canonical, many_nodes, many_links, written}
 use Rattle.lattice.specs.Label.{Label}
 use Rattle.acceptance.specs.declared.TableFault.{TableFault}
-use Rattle.acceptance.specs.declared.Opened.{Opened}
-use Rattle.acceptance.specs.declared.Opened.TheVariants as table
-use Rattle.acceptance.specs.Reply.{opened}
+use Rattle.acceptance.specs.Reply.{opened, TableAnswer}
 use Rattle.layout.specs.Layout.{rows_of}
 use Rattle.encoder.specs.Encode.{encoded}
-use Rattle.encode.specs.declared.Written.TheVariants as outcome
+use Rattle.encode.specs.declared.Unwritten.TheVariants as unwritten
 use Rattle.encode.specs.Encode.{yielding, fitted, written_out}
 use Rattle.record.specs.declared.GraphFault.{GraphFault}
-use Rattle.record.specs.declared.reading.Verdict.{Verdict}
-use Rattle.record.specs.declared.reading.Verdict.TheVariants.{Accepted, Refused}
 use Rattle.record.specs.Read.{Reading, refused, accepted, reading, graph_of_rows}
-use Rattle.record.specs.Reads.{ReadsAs}
+use Rattle.record.specs.Reads.{ReadsAs, Verdict}
 use Rattle.replies.specs.declared.Side.TheVariants.{First}
-use Rattle.replies.specs.declared.Reply.{Reply}
-use Rattle.replies.specs.declared.Reply.TheVariants.{Length, Table, Graph}
+use Rattle.replies.specs.Replies.{Reply}
+use Rattle.replies.specs.Replies.{Length, Table, Graph}
 use Rattle.replies.specs.Reply.{Result, resulting, result_of, refusing, length_of}
 use Rattle.pairs.specs.Pair.{read_both}
 use Rattle.pairs.proofs.Readings.{told-refused, told-accepted}
@@ -43,7 +40,7 @@ use Rattle.gathering.proofs.Answers.{table-told}
 
 -- The program is read.
 module _ (n : ℕ) (t bytes : List ℕ) (gathered : ℕ) (room : List ℕ) {v : Verdict} {ws : List ℕ} (tells : ReadsAs n (reading n bytes) v ws) where
-  pub joined-refused : (fault : GraphFault) → v ≡ Refused fault → resulting (Graph fault First) room ≡ joined n t (first_of gathered room) bytes room
+  pub joined-refused : (fault : GraphFault) → v ≡ Err fault → resulting (Graph fault First) room ≡ joined n t (first_of gathered room) bytes room
   joined-refused fault e = sym (go (first_of gathered room))
     where
       go : (o : Option (List ℕ)) → joined n t o bytes room ≡ refusing (Graph fault First) room
@@ -51,12 +48,12 @@ module _ (n : ℕ) (t bytes : List ℕ) (gathered : ℕ) (room : List ℕ) {v : 
       go (some part) = ap (λ (i : Reading). read_both (λ r. refusing r room) i (reading n part) (generalized n t room)) (told-refused tells fault e)
 
   -- The addition where nothing is gathered.
-  pub joined-none : gathered ≡ 0 → v ≡ Accepted → rewritten_rows room (rows_of ws) ≡ joined n t (first_of gathered room) bytes room
+  pub joined-none : gathered ≡ 0 → v ≡ Ok tt → rewritten_rows room (rows_of ws) ≡ joined n t (first_of gathered room) bytes room
   joined-none h e =
       sym (ap (λ (l : ℕ). joined n t (first_of l room) bytes room) h ∙ ap (λ (i : Reading). rewritten i room) (told-accepted tells e).is)
 
   -- The addition where something is gathered.
-  pub joined-some : (gathered ≡ 0 → ⊥) → v ≡ Accepted →
+  pub joined-some : (gathered ≡ 0 → ⊥) → v ≡ Ok tt →
       joined_rows n t room (rows_of ws) (reading n (take gathered room)) ≡ joined n t (first_of gathered room) bytes room
   joined-some h e =
       sym (ap (λ (b : Bool). joined n t (cond b none (some (take gathered room))) bytes room) (ne_eqb gathered 0 h) ∙
@@ -79,7 +76,7 @@ module _ (out : List ℕ) where
     where
       go : (b : Bool) → leb (length (encoded rows)) (length out) ≡ b →
           Keeps out
-          (result_of (cond b (yielding (outcome.Length (length (encoded rows))) (encoded rows ++ drop (length (encoded rows)) out)) (yielding outcome.NoRoom out)))
+          (result_of (cond b (yielding (Ok (length (encoded rows))) (encoded rows ++ drop (length (encoded rows)) out)) (yielding (Err unwritten.NoRoom) out)))
       go true e = record { kept = λ d. none-some (sym d); takes = λ l d. omega (arith, leb-true (length (encoded rows)) (length out) e) }
       go false e = record { kept = λ d. refl; takes = λ l d. none-some d }
 
@@ -110,7 +107,7 @@ unfolding rewriting generalizing
 joining-checked n t none bytes out = refl
 joining-checked n t (some part) bytes out = refl
 
-module _ {state : List ℕ} {p : Parts} (parts : PartsOf state p) {answer : Opened}
+module _ {state : List ℕ} {p : Parts} (parts : PartsOf state p) {answer : TableAnswer}
     (told : answer ≡ opened p.types (take (p.end - p.start) (drop p.start state))) (bytes : List ℕ) where
   -- The addition, by the parts that the definitions name.
   abbrev whole : Result
@@ -121,11 +118,11 @@ module _ {state : List ℕ} {p : Parts} (parts : PartsOf state p) {answer : Open
   adding-checked =
       ap (settled state)
       (joining-checked (types_in state) (table_in state) (gathered_in state) bytes (room_in state) ∙
-      ap (λ (o : Opened). checked (λ r. refusing r (room_in state)) o whole) (table-told parts told))
+      ap (λ (o : TableAnswer). checked (λ r. refusing r (room_in state)) o whole) (table-told parts told))
 
-  pub add-refused : (fault : TableFault) → answer ≡ table.Refused fault → resulting (Table fault) state ≡ adding state bytes
+  pub add-refused : (fault : TableFault) → answer ≡ Err fault → resulting (Table fault) state ≡ adding state bytes
   add-refused fault e =
-      sym (adding-checked ∙ ap (λ (o : Opened). settled state (checked (λ r. refusing r (room_in state)) o whole)) e)
+      sym (adding-checked ∙ ap (λ (o : TableAnswer). settled state (checked (λ r. refusing r (room_in state)) o whole)) e)
 
   -- the room as it is lent
   abbrev lent : List ℕ
@@ -178,7 +175,7 @@ module _ {state : List ℕ} {p : Parts} (parts : PartsOf state p) {answer : Open
         drop_at (take p.room state) new (p.end + 2) (long ∙ ends.1) in
         ap₂ (λ (x y : List ℕ). resulting reply (x ++ (two_bytes l ++ y))) head tail
 
-    pub add-accepted : answer ≡ table.Accepted → settled_at p.end after reply ≡ adding state bytes
+    pub add-accepted : answer ≡ Ok tt → settled_at p.end after reply ≡ adding state bytes
     add-accepted e =
         ap (λ (s : List ℕ). settled_at p.end s reply) after_is ∙ settles (length_of reply) refl ∙
-        sym (adding-checked ∙ ap (λ (o : Opened). settled state (checked (λ r. refusing r (room_in state)) o whole)) e ∙ ap (settled state) (sym joined_is))
+        sym (adding-checked ∙ ap (λ (o : TableAnswer). settled state (checked (λ r. refusing r (room_in state)) o whole)) e ∙ ap (settled state) (sym joined_is))

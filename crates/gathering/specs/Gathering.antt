@@ -6,8 +6,8 @@ use Rattle.std.proofs.Math.Option.{Option, none, some}
 use Rattle.acceptance.specs.Reply.{opened}
 use Rattle.record.specs.Read.{Reading, refused, accepted, reading}
 use Rattle.replies.specs.declared.Side.TheVariants.{First, Second}
-use Rattle.replies.specs.declared.Reply.{Reply}
-use Rattle.replies.specs.declared.Reply.TheVariants.{Length, Graph, NoRoom, NothingGathered}
+use Rattle.replies.specs.Replies.{Reply}
+use Rattle.replies.specs.Replies.{Length, Graph, NoRoom, NothingGathered}
 use Rattle.replies.specs.Reply.{Result, resulting, refusing, length_of}
 use Rattle.engine.specs.Rewriting.{rewritten_rows}
 use Rattle.calls.specs.Calls.{checked, rewriting, ordering, generalizing}

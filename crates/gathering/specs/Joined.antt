@@ -5,8 +5,8 @@ use Rattle.graphs.specs.Rows.{Row}
 use Rattle.lattice.specs.Label.{Label}
 use Rattle.record.specs.Read.{Reading, refused, accepted, reading}
 use Rattle.replies.specs.declared.Side.TheVariants.{Second}
-use Rattle.replies.specs.declared.Reply.{Reply}
-use Rattle.replies.specs.declared.Reply.TheVariants.{Graph}
+use Rattle.replies.specs.Replies.{Reply}
+use Rattle.replies.specs.Replies.{Graph}
 use Rattle.replies.specs.Reply.{Result, resulting, refusing, length_of}
 use Rattle.pairs.specs.Pair.{read_both}
 use Rattle.engine.specs.Rewriting.{rewritten}

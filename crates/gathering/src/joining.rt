@@ -1,17 +1,18 @@
 // What an addition does once the table in the state is accepted.
 
-ghost use Rattle.std.specs.Prelude.{◌≡◌, true, List, ℕ, ◌+◌, ◌≤◌, length, take};
+ghost use Rattle.std.specs.Prelude.{◌≡◌, true, List, ℕ, take};
 ghost use Rattle.bounds.specs.Opening.{OpenedFor};
 ghost use Rattle.layout.specs.Layout.{rows_of};
 ghost use Rattle.record.specs.Read.{reading};
 ghost use Rattle.record.specs.Reads.{Loaded};
-ghost use Rattle.replies.specs.declared.Reply.TheVariants.{Length};
+ghost use Rattle.replies.specs.Replies.{told};
 ghost use Rattle.replies.specs.Reply.{resulting};
 ghost use Rattle.gathering.specs.Gathering.{first_of};
-ghost use Rattle.gathering.specs.Joined.{joined, joined_rows, settled_at};
+ghost use Rattle.gathering.specs.Joined.{joined, joined_rows};
 
-use record::reading::Verdict;
-use replies::{Reply, Side};
+use engine::generalizing::CommonPart;
+use engine::operation::Operation;
+use replies::{Refusal, Side};
 
 // Writes the new common part over the room: the program's own record where nothing is gathered, else the common part of the program and the
 // record that stands first in the room.
@@ -22,22 +23,19 @@ pub fn join<'a>(
     cells: &'a [[u8; 64]],
     bytes: &[u8],
     room: &mut [u8],
-) -> Reply
+) -> Result<usize, Refusal>
     requires { (t : List ℕ) × OpenedFor true n t sets.now cells.now }
     ensures { (t : List ℕ) → OpenedFor true n t sets.now cells.now →
-        resulting result room.new ≡ joined n t (first_of gathered room.old) bytes.now room.old }
+        resulting (told result) room.new ≡ joined n t (first_of gathered room.old) bytes.now room.old }
 {
     let mut program = [0u16; layout::LONGEST];
-    let verdict = record::reading::read(n, bytes, &mut program);
-    match verdict {
-        Verdict::Refused(fault) => Reply::Graph(fault, Side::First),
-        Verdict::Accepted => {
-            if gathered == 0 {
-                return engine::rewriting::of_graph(&program, room);
-            }
-            join_graph(n, gathered, sets, cells, &program, room)
-        }
+    if let Err(fault) = record::reading::read(n, bytes, &mut program) {
+        return Err(Refusal::Graph(fault, Side::First));
     }
+    if gathered == 0 {
+        return engine::rewriting::of_graph(&program, room);
+    }
+    join_graph(n, gathered, sets, cells, &program, room)
 }
 
 // Writes over the room the common part of a program's graph and the record that stands first in the room.
@@ -48,28 +46,15 @@ fn join_graph<'a>(
     cells: &'a [[u8; 64]],
     program: &'a [u16],
     room: &mut [u8],
-) -> Reply
+) -> Result<usize, Refusal>
     requires { ((t : List ℕ) × OpenedFor true n t sets.now cells.now) × Loaded n program.now }
     ensures { (t : List ℕ) → OpenedFor true n t sets.now cells.now →
-        resulting result room.new ≡ joined_rows n t room.old (rows_of program.now) (reading n (take gathered room.old)) }
+        resulting (told result) room.new ≡ joined_rows n t room.old (rows_of program.now) (reading n (take gathered room.old)) }
 {
     let end = crate::parts::end_of(room, 0, gathered);
     let mut part = [0u16; layout::LONGEST];
-    let verdict = record::reading::read(n, &room[..end], &mut part);
-    match verdict {
-        Verdict::Refused(fault) => Reply::Graph(fault, Side::Second),
-        Verdict::Accepted => engine::generalizing::of_graphs(n, sets, cells, program, &part, room),
+    if let Err(fault) = record::reading::read(n, &room[..end], &mut part) {
+        return Err(Refusal::Graph(fault, Side::Second));
     }
-}
-
-// Writes the length that a reply tells as two bytes from `at` on. Answers that reply.
-pub fn settle(at: usize, reply: Reply, state: &mut [u8]) -> Reply
-    requires { (l : ℕ) → reply ≡ Length l → at + 2 ≤ length state.old }
-    ensures { resulting result state.new ≡ settled_at at state.old reply }
-{
-    let Reply::Length(length) = reply else {
-        return reply;
-    };
-    crate::parts::put_length(at, length, state);
-    Reply::Length(length)
+    CommonPart::of_graphs(n, sets, cells, program, &part, room)
 }

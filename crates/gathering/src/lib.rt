@@ -10,10 +10,10 @@ ghost use Rattle.std.specs.Prelude.{◌≡◌};
 ghost use Rattle.record.specs.Read.{reading};
 ghost use Rattle.replies.specs.Reply.{resulting};
 ghost use Rattle.gathering.specs.Gathering.{adding, begun, comparing, finishing, nothing_after, written_from};
+ghost use Rattle.replies.specs.Replies.{told};
 
-use acceptance::Opened;
-use record::reading::Verdict;
-use replies::{Reply, Side};
+use parts::Parts;
+use replies::{Refusal, Reply, Side};
 
 mod joining;
 pub mod parts;
@@ -22,67 +22,57 @@ pub mod parts;
 pub const LONGEST: usize = 4854;
 
 // Begins a gathering over a table in lent bytes. The answer tells how many bytes are used.
-pub fn begin(n: usize, table: &[u8], state: &mut [u8]) -> Reply
-    ensures { resulting result state.new ≡ begun n table.now state.old }
+pub fn begin(n: usize, table: &[u8], state: &mut [u8]) -> Result<usize, Refusal>
+    ensures { resulting (told result) state.new ≡ begun n table.now state.old }
 {
-    let opened = acceptance::accept(n, table);
-    match opened {
-        Opened::Refused(fault) => Reply::Table(fault),
-        Opened::Accepted => {
-            if state.len() < 1 + 8 * n + 2 + LONGEST {
-                return Reply::NoRoom;
-            }
-            state[0] = n as u8;
-            parts::copy(table, 1, state);
-            parts::put_length(1 + 8 * n, 0, state);
-            Reply::Length(3 + 8 * n)
-        }
+    acceptance::accept(n, table)?;
+    if state.len() < 1 + 8 * n + 2 + LONGEST {
+        return Err(Refusal::NoRoom);
     }
+    state[0] = n as u8;
+    parts::copy(table, 1, state);
+    parts::put_length(1 + 8 * n, 0, state);
+    Ok(3 + 8 * n)
 }
 
 // Adds a program to what is gathered. The program is the first graph, what is gathered the second. The answer tells the length of the common
 // part.
-pub fn add(state: &mut [u8], bytes: &[u8]) -> Reply
-    ensures { resulting result state.new ≡ adding state.old bytes.now }
+pub fn add(state: &mut [u8], bytes: &[u8]) -> Result<usize, Refusal>
+    ensures { resulting (told result) state.new ≡ adding state.old bytes.now }
 {
-    let found = parts::find(state);
-    let n = found.types;
-    let start = found.start;
-    let end = found.end;
-    let room = found.room;
-    let gathered = found.gathered;
+    let Parts {
+        types,
+        start,
+        end,
+        room,
+        gathered,
+        ..
+    } = parts::find(state);
     let mut sets = [0u64; bounds::sets::WORDS];
     let mut cells = [[0u8; 64]; 64];
-    let opened = bounds::open(n, &state[start..end], true, &mut sets, &mut cells);
-    match opened {
-        Opened::Refused(fault) => Reply::Table(fault),
-        Opened::Accepted => {
-            let reply = joining::join(n, gathered, &sets, &cells, bytes, &mut state[room..]);
-            joining::settle(end, reply, state)
-        }
-    }
+    bounds::open(types, &state[start..end], true, &mut sets, &mut cells)?;
+    let length = joining::join(types, gathered, &sets, &cells, bytes, &mut state[room..])?;
+    parts::put_length(end, length, state);
+    Ok(length)
 }
 
 // The order of a program, as first graph, to what is gathered.
 pub fn order(state: &[u8], bytes: &[u8]) -> Reply
     ensures { result ≡ comparing state.now bytes.now }
 {
-    let found = parts::find(state);
-    let n = found.types;
-    let start = found.start;
-    let end = found.end;
-    let room = found.room;
-    let last = found.last;
-    let opened = acceptance::accept(n, &state[start..end]);
-    match opened {
-        Opened::Refused(fault) => Reply::Table(fault),
-        Opened::Accepted => {
-            if found.gathered == 0 {
-                return nothing_after(n, bytes);
-            }
-            orders::of_records(n, &state[start..end], bytes, &state[room..last])
-        }
+    let Parts {
+        types,
+        start,
+        end,
+        room,
+        gathered,
+        last,
+    } = parts::find(state);
+    acceptance::accept(types, &state[start..end])?;
+    if gathered == 0 {
+        return nothing_after(types, bytes);
     }
+    orders::of_records(types, &state[start..end], bytes, &state[room..last])
 }
 
 // The order's answer where nothing is gathered: the program's refusal, else 16.
@@ -90,43 +80,38 @@ fn nothing_after(n: usize, bytes: &[u8]) -> Reply
     ensures { result ≡ nothing_after (reading n bytes.now) }
 {
     let mut program = [0u16; layout::LONGEST];
-    let verdict = record::reading::read(n, bytes, &mut program);
-    match verdict {
-        Verdict::Refused(fault) => Reply::Graph(fault, Side::First),
-        Verdict::Accepted => Reply::NothingGathered,
+    match record::reading::read(n, bytes, &mut program) {
+        Err(fault) => Err(Refusal::Graph(fault, Side::First)),
+        Ok(()) => Err(Refusal::NothingGathered),
     }
 }
 
 // Writes what is gathered. The gathering stays open.
-pub fn finish(state: &[u8], out: &mut [u8]) -> Reply
-    ensures { resulting result out.new ≡ finishing state.now out.old }
+pub fn finish(state: &[u8], out: &mut [u8]) -> Result<usize, Refusal>
+    ensures { resulting (told result) out.new ≡ finishing state.now out.old }
 {
-    let found = parts::find(state);
-    let n = found.types;
-    let start = found.start;
-    let end = found.end;
-    let room = found.room;
-    let last = found.last;
-    let opened = acceptance::accept(n, &state[start..end]);
-    match opened {
-        Opened::Refused(fault) => Reply::Table(fault),
-        Opened::Accepted => {
-            if found.gathered == 0 {
-                return Reply::NothingGathered;
-            }
-            write(n, &state[room..last], out)
-        }
+    let Parts {
+        types,
+        start,
+        end,
+        room,
+        gathered,
+        last,
+    } = parts::find(state);
+    acceptance::accept(types, &state[start..end])?;
+    if gathered == 0 {
+        return Err(Refusal::NothingGathered);
     }
+    write(types, &state[room..last], out)
 }
 
 // Writes the record of what is gathered.
-fn write(n: usize, part: &[u8], out: &mut [u8]) -> Reply
-    ensures { resulting result out.new ≡ written_from (reading n part.now) out.old }
+fn write(n: usize, part: &[u8], out: &mut [u8]) -> Result<usize, Refusal>
+    ensures { resulting (told result) out.new ≡ written_from (reading n part.now) out.old }
 {
     let mut graph = [0u16; layout::LONGEST];
-    let verdict = record::reading::read(n, part, &mut graph);
-    match verdict {
-        Verdict::Refused(fault) => Reply::Graph(fault, Side::Second),
-        Verdict::Accepted => engine::rewriting::of_graph(&graph, out),
+    if let Err(fault) = record::reading::read(n, part, &mut graph) {
+        return Err(Refusal::Graph(fault, Side::Second));
     }
+    engine::rewriting::of_graph(&graph, out)
 }

@@ -32,10 +32,7 @@ pub fn end_of(bytes: &[u8], at: usize, count: usize) -> usize
 fn byte_at(bytes: &[u8], at: usize) -> usize
     ensures { (result ≡ get_or bytes.now at 0) × (result < 256) }
 {
-    if at < bytes.len() {
-        return bytes[at] as usize;
-    }
-    0
+    bytes.get(at).copied().unwrap_or(0) as usize
 }
 
 // The length that stands in two bytes, low byte first.
@@ -80,9 +77,5 @@ pub fn copy(bytes: &[u8], at: usize, state: &mut [u8])
     requires { at + length bytes.now ≤ length state.old }
     ensures { state.new ≡ paste state.old at bytes.now (length bytes.now) }
 {
-    let mut i = 0;
-    while i < bytes.len() {
-        state[at + i] = bytes[i];
-        i += 1;
-    }
+    state[at..at + bytes.len()].copy_from_slice(bytes);
 }

@@ -8,6 +8,7 @@ use Prim.Native.Nat.{ℕ, zero, suc, ◌+◌, ◌-◌, ◌*◌, ◌/◌, ◌%◌
 use native.Mathlib.Omega.{arith}
 use lib.Dec.{eqb}
 use lib.ListN.{length, get_or, set, length-append, length-map}
+use Rattle.std.specs.Prelude.{Err, Some, None}
 use Rattle.graphs.specs.Graph.{Reached}
 use Rattle.graphs.specs.Rows.{Row}
 use Rattle.graphs.specs.Number.{Canonical, canonical, many_nodes, many_links, written}
@@ -26,25 +27,23 @@ use Rattle.layout.proofs.Spans.{link_at, length-links, links-at, links-member}
 use Rattle.layout.proofs.Rows.{row-at, rows-source}
 use Rattle.layout.proofs.Places.{label-at, link-at, link-place}
 use Rattle.layout.proofs.Builder.{Orderly, Aimed, size-kept, size-rows, size_is, built-shaped, built-sound}
-use Rattle.encode.specs.Encode.{Outcome, yielding, written_out}
-use Rattle.encode.specs.declared.Written.{Written}
-use Rattle.encode.specs.declared.Written.TheVariants as outcome
+use Rattle.encode.specs.Encode.{Outcome, yielding, written_out, Writing}
+use Rattle.encode.specs.declared.Unwritten.TheVariants as unwritten
 use Rattle.product.specs.Queue.{clear, code_of, common, Marked, Numbered, Full}
 use Rattle.generalize.specs.Product.{product, product_out}
 use Rattle.generalize.specs.Found.{room, Found}
-use Rattle.generalize.specs.declared.Common.TheVariants as variants
 use Rattle.generalize.proofs.Sides.{pair_of, product-root, product-link, product-label, common-known, tells-pair}
 use Rattle.generalize.proofs.Building.{Building, base, joined-known, pair-numbered, link-reached, pairs-reached}
 
 -- A graph with too many nodes or links is not written.
 pub too_large : (joins : ℕ → ℕ → ℕ) {a b : List ℕ} → Recorded a → Recorded b → (old : List ℕ) →
     ManyNodes (product joins a b) ⊎ ManyLinks (product joins a b) →
-    product_out joins a b old ≡ yielding outcome.TooLarge old
+    product_out joins a b old ≡ yielding (Err unwritten.TooLarge) old
 unfolding written_out
 too_large joins {a} {b} left right old many = go (canonical same_pair (product joins a b)) refl
   where
     go : (c : Canonical Label) → canonical same_pair (product joins a b) ≡ c →
-        product_out joins a b old ≡ yielding outcome.TooLarge old
+        product_out joins a b old ≡ yielding (Err unwritten.TooLarge) old
     go many_nodes e = ap (λ (c : Canonical Label). written_out c old) e
     go many_links e = ap (λ (c : Canonical Label). written_out c old) e
     go (written form) e =
@@ -324,13 +323,13 @@ module _ {joins : ℕ → ℕ → ℕ} {a b : List ℕ} {head count at : ℕ} {m
 
 -- What building in lent words found.
 
-pub found-written : {w : Written} {outcome : Outcome} {words : ℕ} {old new : List ℕ} → yielding w new ≡ outcome →
-    Found (variants.Written w) outcome words old new
+pub found-written : {w : Writing} {outcome : Outcome} {words : ℕ} {old new : List ℕ} → yielding w new ≡ outcome →
+    Found (Some w) outcome words old new
 found-written {w} {outcome} {words} {old} {new} h =
     record {
-      written = λ v e. let same : w ≡ v = cc in subst (λ (x : Written). yielding x new ≡ outcome) same h;
+      written = λ v e. let same : w ≡ v = cc in subst (λ (x : Writing). yielding x new ≡ outcome) same h;
       too_few = λ e. absurd (let z : ◌≡◌ {A = ℕ} 0 1 = cc in omega arith);
     }
 
-pub found-too-few : {outcome : Outcome} {words : ℕ} {old : List ℕ} → words < room → Found variants.TooFew outcome words old old
+pub found-too-few : {outcome : Outcome} {words : ℕ} {old : List ℕ} → words < room → Found None outcome words old old
 found-too-few h = record { written = λ w e. absurd (let z : ◌≡◌ {A = ℕ} 0 1 = cc in omega arith); too_few = λ e. (refl, h) }

@@ -14,7 +14,7 @@ ghost use Rattle.generalize.specs.Pairs.{Joinable};
 ghost use Rattle.generalize.specs.Product.{product_out};
 ghost use Rattle.generalize.specs.Found.{Found};
 
-use encode::Written;
+use encode::Unwritten;
 use layout::Label;
 use product::{CLEAR, Spread};
 
@@ -42,21 +42,12 @@ fn join<'a>(
     requires seekable { Seekable true n sets.now cells.now }
     ensures { stated result ≡ join_ranged (join_in n sets.now cells.now) (stated a) (stated b) }
 {
-    Label {
-        kind: bounds::sets::join(n, sets, cells, a.kind as usize, b.kind as usize),
-        lowest: layout::lesser(a.lowest, b.lowest),
-        highest: layout::greater(a.highest, b.highest),
-    }
+    let kind = bounds::sets::join(n, sets, cells, a.kind as usize, b.kind as usize);
+    layout::hull(kind, a, b)
 }
 
-// The answer of building in lent words: what writing the result answers, or that the words are too few.
-#[derive(Clone, Copy)]
-pub enum Common {
-    Written(Written),
-    TooFew,
-}
-
-// Writes the common part of two graphs over n types. `sets` and `cells` hold the joins of types. The result is built in lent words.
+// Writes the common part of two graphs over n types. `sets` and `cells` hold the joins of types. The result is built in lent words. Answers what
+// writing it answers, or none if the words are too few.
 fn generalize_in<'a>(
     n: usize,
     sets: &'a [u64; bounds::sets::WORDS],
@@ -65,7 +56,7 @@ fn generalize_in<'a>(
     b: &'a [u16],
     words: &mut [u16],
     out: &mut [u8],
-) -> Common
+) -> Option<Result<usize, Unwritten>>
     requires recorded { Recorded a.now }
     requires recorded_2 { Recorded b.now }
     requires joinable { Joinable n (join_in n sets.now cells.now) a.now b.now }
@@ -83,7 +74,7 @@ fn generalize_in<'a>(
     let mut head: usize = 0;
     while head < count {
         if words.len() < at + (layout::HEADER + 64) {
-            return Common::TooFew;
+            return None;
         }
         let pair = queue[head] as usize;
         let u = pair / 255;
@@ -100,42 +91,41 @@ fn generalize_in<'a>(
             at: at + layout::HEADER,
             count,
         };
-        let spread = product::pair_links(a, b, u, v, &mut marks, &mut queue, words, known);
+        let Some(spread) = product::pair_links(a, b, u, v, &mut marks, &mut queue, words, known)
+        else {
+            return Some(Err(Unwritten::TooLarge)); // more than 255 nodes
+        };
         at = spread.at;
         count = spread.count;
-        if 255 < count {
-            return Common::Written(Written::TooLarge); // more than 255 nodes
-        }
         words[head + 2] = at as u16;
         head += 1;
         if BASE + head * layout::HEADER + 2048 < at {
-            return Common::Written(Written::TooLarge); // more than 2,048 links
+            return Some(Err(Unwritten::TooLarge)); // more than 2,048 links
         }
     }
     words[0] = count as u16;
-    Common::Written(encode::canonical::write(words, out))
+    Some(encode::canonical::write(words, out))
 }
 
-// Writes the common part of any two graphs: its words are enough for them.
-fn generalize_large<'a>(
+// Builds and writes the common part in so many words.
+fn generalize_sized<'a, const WORDS: usize>(
     n: usize,
     sets: &'a [u64; bounds::sets::WORDS],
     cells: &'a [[u8; 64]],
     a: &'a [u16],
     b: &'a [u16],
     out: &mut [u8],
-) -> Written
+) -> Option<Result<usize, Unwritten>>
     requires recorded { Recorded a.now }
     requires recorded_2 { Recorded b.now }
     requires joinable { Joinable n (join_in n sets.now cells.now) a.now b.now }
     requires seekable { Seekable true n sets.now cells.now }
-    ensures { yielding result out.new ≡ product_out (join_in n sets.now cells.now) a.now b.now out.old }
+    requires in_bounds { (512 ≤ WORDS) × (WORDS ≤ 65535) }
+    ensures { Found result (product_out (join_in n sets.now cells.now) a.now b.now out.old)
+        WORDS out.old out.new }
 {
-    let mut words = [0u16; ROOM];
-    match generalize_in(n, sets, cells, a, b, &mut words, out) {
-        Common::Written(written) => written,
-        Common::TooFew => Written::TooLarge, // does not occur in ROOM words
-    }
+    let mut words = [0u16; WORDS];
+    generalize_in(n, sets, cells, a, b, &mut words, out)
 }
 
 // Writes the common part of two graphs over n types. `sets` and `cells` hold the joins of types.
@@ -146,19 +136,20 @@ pub fn generalize<'a>(
     a: &'a [u16],
     b: &'a [u16],
     out: &mut [u8],
-) -> Written
+) -> Result<usize, Unwritten>
     requires recorded { Recorded a.now }
     requires recorded_2 { Recorded b.now }
     requires joinable { Joinable n (join_in n sets.now cells.now) a.now b.now }
     requires seekable { Seekable true n sets.now cells.now }
     ensures { yielding result out.new ≡ product_out (join_in n sets.now cells.now) a.now b.now out.old }
 {
-    if SMALL_NODES < a[0] as usize + b[0] as usize {
-        return generalize_large(n, sets, cells, a, b, out);
+    if a[0] as usize + b[0] as usize <= SMALL_NODES {
+        if let Some(written) = generalize_sized::<{ SMALL_ROOM }>(n, sets, cells, a, b, out) {
+            return written;
+        }
     }
-    let mut words = [0u16; SMALL_ROOM];
-    match generalize_in(n, sets, cells, a, b, &mut words, out) {
-        Common::Written(written) => written,
-        Common::TooFew => generalize_large(n, sets, cells, a, b, out),
+    match generalize_sized::<{ ROOM }>(n, sets, cells, a, b, out) {
+        Some(written) => written,
+        None => Err(Unwritten::TooLarge), // does not occur in ROOM words
     }
 }

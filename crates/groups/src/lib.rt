@@ -14,14 +14,14 @@ ghost use Rattle.link_orders.specs.LinkOrders.{Fitting, earlier_by};
 use classes::forest;
 use link_orders::LinkOrder;
 
-// The mark of a link that another link of its group comes before.
-pub const FOLLOWS: u8 = 0;
-
-// The mark of a link that leads its group, with links of g over it.
-pub const LEADS: u8 = 1;
-
-// The mark of a link with nothing of g over it. Such a link is a group alone.
-pub const BARE: u8 = 2;
+// The mark of a link: another link of its group comes before it; it leads its group, with links of g over it; or nothing of g lies over it, and it
+// is a group alone.
+#[derive(Clone, Copy)]
+pub enum LinkMark {
+    Follows,
+    Leads,
+    Bare,
+}
 
 // Marks the link at place k, where all links before it are marked. `lead` has for each class the place of its first link so far, by rank
 // and then by place.
@@ -32,7 +32,7 @@ fn mark_place<'a>(
     rank: &'a [u8; link_orders::FEATURES],
     k: usize,
     lead: &mut [u16; 255],
-    marks: &mut [u8],
+    marks: &mut [LinkMark],
 )
     requires owned { Owned s.now owner.now parent.now × ((v : ℕ) × Place s.now v k) }
     requires marking { Marking s.now owner.now parent.now rank.now k lead.old marks.old }
@@ -40,25 +40,25 @@ fn mark_place<'a>(
 {
     let x = owner[k];
     if x == cover::NONE {
-        marks[k] = BARE;
+        marks[k] = LinkMark::Bare;
         return;
     }
     let c = parent[x as usize] as usize;
     let j = lead[c];
     if j == cover::NONE {
         lead[c] = k as u16;
-        marks[k] = LEADS;
+        marks[k] = LinkMark::Leads;
         return;
     }
-    let met = s[j as usize] / layout::SCALE;
-    let here = s[k] / layout::SCALE;
+    let met = layout::feature(s[j as usize]);
+    let here = layout::feature(s[k]);
     if rank[here as usize] < rank[met as usize] {
         lead[c] = k as u16;
-        marks[j as usize] = FOLLOWS;
-        marks[k] = LEADS;
+        marks[j as usize] = LinkMark::Follows;
+        marks[k] = LinkMark::Leads;
         return;
     }
-    marks[k] = FOLLOWS;
+    marks[k] = LinkMark::Follows;
 }
 
 // Marks the links of s, given the owner of each link, the classes of the owners and the rank of each feature.
@@ -67,22 +67,19 @@ fn mark<'a>(
     owner: &'a [u16],
     parent: &'a [u16; 510],
     rank: &'a [u8; link_orders::FEATURES],
-    marks: &mut [u8],
+    marks: &mut [LinkMark],
 )
     requires { Owned s.now owner.now parent.now × (length marks.old ≡ length s.now) }
     ensures { Marks (Sooner s.now rank.now) s.now owner.now parent.now marks.new }
 {
     let mut lead = [cover::NONE; 255];
     let nodes = s[0] as usize;
-    let mut v = 0;
-    while v < nodes {
+    for v in 0..nodes {
         let end = s[v + 2] as usize;
-        let mut k = s[v + 1] as usize + layout::HEADER;
-        while k < end {
+        // The place k is needed: the owner and the mark of a link stand at its place.
+        for k in s[v + 1] as usize + layout::HEADER..end {
             mark_place(s, owner, parent, rank, k, &mut lead, marks);
-            k += 1;
         }
-        v += 1;
     }
 }
 
@@ -92,7 +89,7 @@ pub fn mark_links<'a>(
     g: &'a [u16],
     map: &'a [u16; 255],
     order: LinkOrder,
-    marks: &mut [u8],
+    marks: &mut [LinkMark],
 )
     requires { Lying s.now g.now map.now × Fitting order × (length marks.old ≡ length s.now) }
     ensures { Marked (earlier_by order) s.now g.now map.now marks.new }
@@ -113,7 +110,7 @@ fn mark_owned<'a>(
     map: &'a [u16; 255],
     order: LinkOrder,
     owner: &mut [u16],
-    marks: &mut [u8],
+    marks: &mut [LinkMark],
 )
     requires lying { Lying s.now g.now map.now × Fitting order }
     requires unowned { Unowned s.now owner.old × (length marks.old ≡ length s.now) }
@@ -122,10 +119,8 @@ fn mark_owned<'a>(
     let mut parent = [0u16; 510];
     let nodes = g[0] as usize;
     forest::separate(nodes, &mut parent);
-    let mut y = 0;
-    while y < nodes {
+    for y in 0..nodes {
         cover::cover_row(s, g, map, y, owner, &mut parent);
-        y += 1;
     }
     forest::flatten(nodes, &mut parent);
     let rank = link_orders::ranks(order);

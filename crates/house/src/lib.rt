@@ -29,11 +29,9 @@ fn byte_at(k: usize) -> u8
     ensures { result ≡ byte_of k }
 {
     let mut word = 0u64;
-    let mut j = 0;
-    while j < 8 {
+    for j in 0..8 {
         let stands = is_below(8 * (k % 8) + j, k / 8);
         word = lattice::words::with_bit(word, j, stands);
-        j += 1;
     }
     word as u8
 }
@@ -46,10 +44,8 @@ pub fn fill_table(out: &mut [u8]) -> bool
     if out.len() < 512 {
         return false;
     }
-    let mut k = 0;
-    while k < 512 {
+    for k in 0..512 {
         out[k] = byte_at(k);
-        k += 1;
     }
     true
 }

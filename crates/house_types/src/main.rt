@@ -14,7 +14,7 @@ use text::put_decimal;
 fn after(k: usize) -> u8
     ensures { result ≡ after_of k }
 {
-    if k % 64 == 63 { 10 } else { 32 }
+    if k % 64 == 63 { b'\n' } else { b' ' }
 }
 
 // Puts the table at the start of the output, and answers its length.
@@ -25,12 +25,10 @@ fn put_meets(out: &mut [u8]) -> usize
 {
     let all = house::meets::all();
     let mut at = 0;
-    let mut k = 0;
-    while k < 4096 {
-        let next = put_decimal(all[k] as usize, at, out);
+    for (k, &entry) in all.iter().enumerate() {
+        let next = put_decimal(entry as usize, at, out);
         out[next] = after(k);
         at = next + 1;
-        k += 1;
     }
     at
 }

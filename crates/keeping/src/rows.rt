@@ -6,11 +6,13 @@ ghost use Rattle.layout.specs.Layout.{header, label_from, links_from, row_end, s
 ghost use Rattle.keeping.specs.Keeping.{Markable};
 ghost use Rattle.keeping.specs.Thinning.{Kept, Thinned};
 
+use groups::LinkMark;
+
 // Copies the kept links of node v to the words from `at` on. Answers the next place.
 fn keep_row<'a>(
     s: &'a [u16],
-    marks: &'a [u8],
-    keep: &'a [u8; 255],
+    marks: &'a [LinkMark],
+    keep: &'a [bool; 255],
     v: usize,
     at: usize,
     words: &mut [u16],
@@ -20,14 +22,13 @@ fn keep_row<'a>(
     ensures { Thinned s.now marks.now keep.now v (row_end s.now v) words.old at words.new result }
 {
     let end = s[v + 2] as usize;
-    let mut k = s[v + 1] as usize + layout::HEADER;
     let mut next = at;
-    while k < end {
+    // The place k is needed: the mark of a link stands at its place.
+    for k in s[v + 1] as usize + layout::HEADER..end {
         if super::keep::is_kept(s, marks, keep, k) {
             words[next] = s[k];
             next += 1;
         }
-        k += 1;
     }
     next
 }
@@ -35,8 +36,8 @@ fn keep_row<'a>(
 // Fills words with the rows of the difference.
 pub fn kept_links<'a>(
     s: &'a [u16],
-    marks: &'a [u8],
-    keep: &'a [u8; 255],
+    marks: &'a [LinkMark],
+    keep: &'a [bool; 255],
     labels: &'a [u16; 510],
     words: &mut [u16],
 )
@@ -49,11 +50,9 @@ pub fn kept_links<'a>(
     let mut at = s[1] as usize;
     words[0] = nodes as u16;
     words[1] = at as u16;
-    let mut v = 0;
-    while v < nodes {
+    for v in 0..nodes {
         layout::put_label(words, at, layout::label_from(labels, layout::HEADER * v));
         at = keep_row(s, marks, keep, v, at + layout::HEADER, words);
         words[v + 2] = at as u16;
-        v += 1;
     }
 }

@@ -5,12 +5,12 @@ use mathlib.Core.Path.{◌≡◌, refl, sym, ap, ap₂, subst, ◌∙◌}
 use mathlib.Core.Bool.{Bool, true, false, not, ◌&&◌, ◌||◌, and-false}
 use mathlib.Core.List.{List}
 use native.Mathlib.Nat.{mod-lt, zero-div, div-eq_of_lt, mod-eq_of_lt, two-pow-succ, div-lt_iff_lt-mul, le-div_iff_mul-le, lt_of_lt_of_le, add-zero, add-suc, add-mul, mul_assoc, mul_comm}
-use native.Mathlib.Decide.{dec_le}
+use native.Mathlib.Decide.{dec_le, ℕ_discrete}
 use native.Mathlib.Omega.{arith}
 use lib.Bits.{bit_and, bit_or, bit_xor, and_shr, or_shr, xor_shr, and_mod, or_mod, xor_mod, xor_add_and, and_le_l, and_step, and_self}
 use lib.Count.{count_trailing_zeros, under, count_leading_zeros, leading_top}
 use lib.Dec.{leb, eqb}
-use lib.ListN.{get_or}
+use lib.ListN.{length, get_or, get_or-eq_default}
 use lib.Pow.{mod-pow-add, shr-shr, shr_lt, pow_mono, pow_pos, pow-add, shl_exact}
 use borrow.Author.Tests.{eq-eqb, ne_eqb, eqb-true, leb-true}
 use Rattle.graphs.proofs.Search.{true-both}
@@ -299,6 +299,30 @@ module _ (t : List ℕ) (i k w b : ℕ) (few : k < 8) (e : w ≡ word (8 * k) (r
   byte_fits =
       let l : 8 * (k + 1) ≤ 64 = omega arith in
       subst (λ (x : ℕ). x < 2 ^ 64) (sym next-byte) (lt_of_lt_of_le (word_below (8 * (k + 1)) (related t false i)) (pow_mono l))
+
+-- bits that are not set add nothing to a word
+word-past : (m k : ℕ) (p : ℕ → Bool) → m ≤ k → ((j : ℕ) → m ≤ j → p j ≡ false) → word m p ≡ word k p
+unfolding word
+word-past m zero p l h = let e : m ≡ 0 = omega arith in ap (λ (x : ℕ). word x p) e
+word-past m (suc k) p l h = go (ℕ_discrete m (suc k)) (λ r. word-past m k p r h)
+  where
+    go : Dec (m ≡ suc k) → (m ≤ k → word m p ≡ word k p) → word m p ≡ digit (p k) * 2 ^ k + word k p
+    go (yes e) next = ap (λ (x : ℕ). word x p) e
+    go (no d) next = let r : m ≤ k = omega (arith, d) in next r ∙ rw (h k r) (omega arith)
+
+-- a row's word has the bits of all its bytes
+pub row-end : (t : List ℕ) (k w : ℕ) → length t ≤ k → k ≤ 8 → w ≡ word (8 * k) (related t false 0) → w ≡ word 64 (related t false 0)
+unfolding below bit
+row-end t k w l few e =
+    e ∙ word-past (8 * k) 64 (related t false 0) (omega arith) λ j r.
+    ap (λ (x : ℕ). eqb (x / 2 ^ (j % 8) % 2) 1) (get_or-eq_default t 0 {n = 8 * 0 + j / 8} (omega arith)) ∙ no-bit (j % 8)
+
+-- the word of row i of a table, by the bytes of the row
+pub row-in : (t r : List ℕ) (i : ℕ) → ((k : ℕ) → k < 8 → get_or r k 0 ≡ get_or t (8 * i + k) 0) → word 64 (related r false 0) ≡ word 64 (related t false i)
+unfolding below
+row-in t r i h =
+    word_same 64 (related r false 0) (related t false i) λ j l.
+    ap (λ (x : ℕ). eqb (x / 2 ^ (j % 8) % 2) 1) (ap (λ (k : ℕ). get_or r k 0) (omega arith) ∙ h (j / 8) (omega arith))
 
 -- one bit more of a word that is turned from its highest bit on
 module _ (ws : List ℕ) (n i j w : ℕ) (few : n ≤ 64) (l : 0 < j)

@@ -8,10 +8,11 @@ use native.Mathlib.Numerals.{add-one}
 use native.Mathlib.Omega.{arith}
 use lib.ListN.{get_or}
 use lib.Dec.{eqb}
+use Rattle.std.specs.Prelude.{Option as Answer, Some}
 use lib.Bits.{bit_and, bit_or, and_comm, and_self}
 use borrow.Author.Tests.{eq-eqb, ne_eqb, eqb-true, not-true}
 use Rattle.graphs.proofs.Search.{same_test, true-both}
-use Rattle.lattice.specs.Table.{every, implies, below, accepted, restores, is_wanted, wanted, cell, meet}
+use Rattle.lattice.specs.Table.{every, implies, below, accepted, restores, is_wanted, wanted, answer, cell, meet}
 use Rattle.lattice.specs.Words.{related, Words, bit, without, part_of, word_restores, Restoring, WantedOver, holder, Sided, Inside}
 use Rattle.lattice.proofs.Every.{and_left, and_right, implies-at, implies-from, every-at, every-all, true-not-false, not-false-true, last-same}
 use Rattle.lattice.proofs.WordLaws.{word_same, word_and, bits-part-of}
@@ -181,17 +182,17 @@ module _ (n : ℕ) (t ws : List ℕ) (ok : accepted n t ≡ true) (words : Words
     wanted-found = last-same _ _ n wanted-test
 
   -- what the search answers for the union
-  pub wanted-cell : (p over u r : ℕ) → p < n → Restoring n ws (get_or ws p 0) over u →
-      ((m : ℕ) → m ≤ 64 → Sided m ws → Inside m u → r ≡ cell (holder m ws u)) → WantedOver n t ws p over r
-  wanted-cell p over u r lp all answer q lq e =
+  pub wanted-answer : (p over u : ℕ) (r : Answer ℕ) → p < n → Restoring n ws (get_or ws p 0) over u →
+      ((m : ℕ) → m ≤ 64 → Sided m ws → Inside m u → r ≡ answer (holder m ws u)) → WantedOver n t ws p over r
+  wanted-answer p over u r lp all answers q lq e =
       let all' : Restoring n ws (get_or ws p 0) (get_or ws q 0) u = subst (λ (w : ℕ). Restoring n ws (get_or ws p 0) w u) e all in
-      answer n few laws (all-inside p q u lp lq all') ∙ ap cell (wanted-found p q u lp lq all')
+      answers n few laws (all-inside p q u lp lq all') ∙ ap answer (wanted-found p q u lp lq all')
 
   -- the answers without a search: q is p, or the greatest type
-  pub same-cell : (p over : ℕ) → p < n → over ≡ get_or ws p 0 → WantedOver n t ws p over (n - 1)
-  same-cell p over lp e q lq f =
-      sym (ap (λ (i : ℕ). cell (wanted n t p i)) (one_word q p lq lp (sym f ∙ e)) ∙ ap cell (wanted-of-same n t ok p lp))
+  pub same-answer : (p over : ℕ) → p < n → over ≡ get_or ws p 0 → WantedOver n t ws p over (Some (n - 1))
+  same-answer p over lp e q lq f =
+      sym (ap (λ (i : ℕ). answer (wanted n t p i)) (one_word q p lq lp (sym f ∙ e)) ∙ ap answer (wanted-of-same n t ok p lp))
 
-  pub top-cell : (p over : ℕ) → p < n → over ≡ get_or ws (n - 1) 0 → WantedOver n t ws p over p
-  top-cell p over lp e q lq f =
-      sym (ap (λ (i : ℕ). cell (wanted n t p i)) (one_word q (n - 1) lq (top-type n t ok) (sym f ∙ e)) ∙ ap cell (wanted-by-top n t ok p lp))
+  pub top-answer : (p over : ℕ) → p < n → over ≡ get_or ws (n - 1) 0 → WantedOver n t ws p over (Some p)
+  top-answer p over lp e q lq f =
+      sym (ap (λ (i : ℕ). answer (wanted n t p i)) (one_word q (n - 1) lq (top-type n t ok) (sym f ∙ e)) ∙ ap answer (wanted-by-top n t ok p lp))

@@ -10,12 +10,13 @@ use native.Mathlib.Numerals.{add-one}
 use native.Mathlib.Omega.{arith}
 use lib.ListN.{length, get_or, set, length-append, length-set, length-map, get_or-append}
 use lib.Seq.{ext_get_or, get_or_at, get_or-set_same, get_or-set_other}
-use lib.Dec.{leb, ltb, eqb}
+use lib.Dec.{leb}
+use Rattle.std.specs.Prelude.{Option as Answer, is_some, unwrap_or}
 use borrow.Author.Count.{below_more}
-use borrow.Author.Tests.{le-leb, lt-leb, leb-true, lt-ltb}
-use Rattle.lattice.specs.Table.{found, cell, bound_row, overwrite, upto}
+use borrow.Author.Tests.{le-leb, lt-leb, leb-true}
+use Rattle.lattice.specs.Table.{found, answer, cell, bound_row, overwrite, upto}
 use Rattle.lattice.specs.Words.{all_found, holder}
-use Rattle.lattice.proofs.Every.{every-same, below_or_not, last-passes}
+use Rattle.lattice.proofs.Every.{every-same, below_or_not}
 
 length-upto : (k : ℕ) → length (upto k) ≡ k
 unfolding upto
@@ -61,10 +62,6 @@ module _ (n : ℕ) (bound : ℕ → ℕ → Option ℕ) (a : ℕ) where
       let s : b < 64 = omega arith in
       ⊎_elim (λ r. low b r ∙ sym (row-bound b r s)) (λ r. high b r s ∙ sym (row-cell b s ∙ rw (lt-leb (suc b) n (omega arith))))
       (below_or_not b n)
-
-cell-found : (o : Option ℕ) → ((c : ℕ) → o ≡ some c → c < 64) → ltb (cell o) 64 ≡ found o
-cell-found none h = refl
-cell-found (some c) h = lt-ltb c 64 (h c refl)
 
 row_same : (n : ℕ) (f g : ℕ → ℕ → Option ℕ) (a : ℕ) → ((b : ℕ) → b < n → f a b ≡ g a b) → bound_row n f a ≡ bound_row n g a
 unfolding bound_row
@@ -118,17 +115,19 @@ set_more d f l i v s h e =
     (λ k r. get_or-set_other l i k v d (λ q. absurd (omega arith)) ∙ h k r)
     (get_or-set_same l i v d s ∙ e)
 
--- what `holder` finds is a type
-holder-type : (n : ℕ) (ws : List ℕ) (w c : ℕ) → holder n ws w ≡ some c → c < n
-unfolding holder
-holder-type n ws w c e = (last-passes (λ k. eqb (get_or ws k 0) w) n c e).0
+-- an answer has a value where there is one
+answer-found : {A : Type 0} (o : Option A) → is_some (answer o) ≡ found o
+answer-found none = refl
+answer-found (some c) = refl
 
--- a word has a holder where its cell holds a type
-pub holder-found : (n : ℕ) (ws : List ℕ) (v w r : ℕ) → n ≤ 64 → v ≡ w → r ≡ cell (holder n ws v) → ltb r 64 ≡ found (holder n ws w)
-holder-found n ws v w r few q e =
-    let f : ltb (cell (holder n ws w)) 64 ≡ found (holder n ws w) =
-    cell-found (holder n ws w) λ c h. omega (arith, holder-type n ws w c h) in
-    cc
+-- a word has a holder where the search answers a type
+pub holder-found : (n : ℕ) (ws : List ℕ) (v w : ℕ) (r : Answer ℕ) → v ≡ w → r ≡ answer (holder n ws v) → is_some r ≡ found (holder n ws w)
+holder-found n ws v w r q e = rw (e, q) (answer-found (holder n ws w))
+
+-- the number in the cell of an answer
+pub answer-cell : (o : Option ℕ) (r : Answer ℕ) → r ≡ answer o → unwrap_or r 64 ≡ cell o
+answer-cell none r e = rw e
+answer-cell (some c) r e = rw e
 
 pub next_row : (k : ℕ) (row : ℕ → List ℕ) (rows table : List (List ℕ)) (v : List ℕ) → table ≡ overwrite k row rows → v ≡ row k
     → set table k v ≡ overwrite (k + 1) row rows

@@ -7,10 +7,11 @@ use mathlib.Core.List.{List}
 use native.Mathlib.Omega.{arith}
 use lib.ListN.{get_or}
 use lib.Bits.{bit_and}
-use lib.Dec.{ltb, eqb}
+use lib.Dec.{eqb}
+use Rattle.std.specs.Prelude.{Option as Answer, None, Some, is_some}
 use borrow.Author.Tests.{eq-eqb, ne_eqb, eqb-true}
 use Rattle.graphs.proofs.Search.{not-true-false}
-use Rattle.lattice.specs.Table.{cell, found}
+use Rattle.lattice.specs.Table.{answer, found}
 use Rattle.lattice.specs.Words.{bit, without, holder, word_bound, Sided, Inside, Seeking}
 use Rattle.lattice.proofs.Every.{and_left, true-not-false, last-nothing, last-only}
 use Rattle.lattice.proofs.Bits.{no-bit, and-bit, without-bit, without-most, cleared-bit, cleared-less}
@@ -22,23 +23,23 @@ seek-begin ws word =
 
 module _ {ws : List ℕ} {word left : ℕ} (s : Seeking ws word left) where
   -- no bit is left
-  pub seek-none : left ≡ 0 → (n : ℕ) → n ≤ 64 → Sided n ws → Inside n word → 64 ≡ cell (holder n ws word)
+  pub seek-none : left ≡ 0 → (n : ℕ) → n ≤ 64 → Sided n ws → Inside n word → None ≡ answer (holder n ws word)
   unfolding holder
   seek-none e n few side in-n =
       sym
-      (ap cell
+      (ap answer
       (last-nothing (λ k. eqb (get_or ws k 0) word) n λ k l.
       ne_eqb (get_or ws k 0) word λ h.
       true-not-false (bit left k) (s.kept n few side in-n k l h) (ap (λ (w : ℕ). bit w k) e ∙ no-bit k)))
 
   module _ (c : ℕ) (l : c < 64) (stands : bit left c ≡ true) where
     -- c has the word, and no other type has
-    pub seek_found : get_or ws c 0 ≡ word → (n : ℕ) → n ≤ 64 → Sided n ws → Inside n word → c ≡ cell (holder n ws word)
+    pub seek_found : get_or ws c 0 ≡ word → (n : ℕ) → n ≤ 64 → Sided n ws → Inside n word → Some c ≡ answer (holder n ws word)
     unfolding holder
     seek_found e n few side in-n =
         let h : bit word c ≡ true = s.part c l stands in
         sym
-        (ap cell
+        (ap answer
         (last-only (λ k. eqb (get_or ws k 0) word) n c (in-n c l h) (eq-eqb (get_or ws c 0) word e) λ k r f.
         let g : get_or ws k 0 ≡ word = eqb-true (get_or ws k 0) word f in
         side.anti k c r (in-n c l h) (ap (λ (w : ℕ). bit w c) g ∙ h)
@@ -83,10 +84,10 @@ common-inside n ws a b l side j r e =
 -- a type whose word has the bits that the words of a and b share is their bound
 module _ (ws : List ℕ) (a b c : ℕ) (l : c < 64) (e : get_or ws c 0 ≡ bit_and (get_or ws a 0) (get_or ws b 0)) where
   pub bound_at : bit (bit_and (get_or ws a 0) (get_or ws b 0)) c ≡ true
-      → (n : ℕ) → n ≤ 64 → Sided n ws → a < n → b < n → c ≡ cell (word_bound n ws a b)
+      → (n : ℕ) → n ≤ 64 → Sided n ws → a < n → b < n → Some c ≡ answer (word_bound n ws a b)
   bound_at h n few side la lb = seek_found (seek-begin ws _) c l h e n few side (common-inside n ws a b la side)
 
-  pub bound-own : (n : ℕ) → n ≤ 64 → Sided n ws → c < n → a < n → b < n → c ≡ cell (word_bound n ws a b)
+  pub bound-own : (n : ℕ) → n ≤ 64 → Sided n ws → c < n → a < n → b < n → Some c ≡ answer (word_bound n ws a b)
   bound-own n few side lc = bound_at (ap (λ (w : ℕ). bit w c) (sym e) ∙ side.own c lc) n few side
 
 -- a word without some of its bits has no bit at n or above where the word has none
@@ -94,8 +95,8 @@ pub without-inside : (n a b : ℕ) → Inside n a → Inside n (without a b)
 without-inside n a b h j r e = h j r (and_left (bit a j) (not (bit b j)) (sym (without-bit a b j) ∙ e))
 
 -- what the search answers for a part of type i's word
-pub part-found : (n : ℕ) (ws : List ℕ) (i b v r : ℕ) → i < n → n ≤ 64 → Sided n ws → v ≡ without (get_or ws i 0) b
-    → ((m : ℕ) → m ≤ 64 → Sided m ws → Inside m v → r ≡ cell (holder m ws v)) → ltb r 64 ≡ found (holder n ws (without (get_or ws i 0) b))
-part-found n ws i b v r l few side e answer =
-    holder-found n ws v (without (get_or ws i 0) b) r few e
-    (answer n few side (subst (Inside n) (sym e) (without-inside n (get_or ws i 0) b (λ j. side.inside i j l))))
+pub part-found : (n : ℕ) (ws : List ℕ) (i b v : ℕ) (r : Answer ℕ) → i < n → n ≤ 64 → Sided n ws → v ≡ without (get_or ws i 0) b
+    → ((m : ℕ) → m ≤ 64 → Sided m ws → Inside m v → r ≡ answer (holder m ws v)) → is_some r ≡ found (holder n ws (without (get_or ws i 0) b))
+part-found n ws i b v r l few side e answers =
+    holder-found n ws v (without (get_or ws i 0) b) r e
+    (answers n few side (subst (Inside n) (sym e) (without-inside n (get_or ws i 0) b (λ j. side.inside i j l))))

@@ -1,6 +1,6 @@
 -- This file defines what a type table is (document 01, "Type table"): the order that its bytes state, when a table is accepted, its meets
 -- and joins, the wanted type, and when it admits differences. `t` is the list of the table's bytes and `n` the number of types.
-use Rattle.std.specs.Prelude.{ℕ, zero, suc, ◌+◌, ◌*◌, ◌-◌, ◌/◌, ◌%◌, ◌^◌, Bool, true, false, cond, not, ◌&&◌, ◌||◌, List, [], ◌∷◌, ◌++◌, map, length, get_or, set, leb, eqb}
+use Rattle.std.specs.Prelude.{ℕ, zero, suc, ◌+◌, ◌*◌, ◌-◌, ◌/◌, ◌%◌, ◌^◌, Bool, true, false, cond, not, ◌&&◌, ◌||◌, List, [], ◌∷◌, ◌++◌, map, length, get_or, set, leb, eqb, Option as Answer, None, Some}
 use Rattle.std.proofs.Math.Option.{Option, none, some}
 
 -- whether every number below n passes a test
@@ -136,6 +136,11 @@ side_bound n t false = meet n t
 abbrev pub cell : Option ℕ → ℕ
 cell none = 64
 cell (some c) = c
+
+-- what a call answers for a value that may not be there
+abbrev pub answer : {A : Type 0} → Option A → Answer A
+answer none = None
+answer (some c) = Some c
 
 -- Row a of a table of bounds has 64 numbers: the bounds of a with the n types, then 0.
 unfoldable pub bound_row : ℕ → (ℕ → ℕ → Option ℕ) → ℕ → List ℕ

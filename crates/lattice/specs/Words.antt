@@ -1,10 +1,10 @@
 -- This file says in terms of words what the functions answer that open a table and search for a wanted type. A word has 64 bits, one
 -- for each type. The contract of `accept` can be read without these definitions: the proofs show that the tests on words decide what
 -- `Table.antt` defines.
-use Rattle.std.specs.Prelude.{ℕ, zero, suc, ◌+◌, ◌*◌, ◌-◌, ◌/◌, ◌%◌, ◌^◌, ◌<◌, ◌≤◌, ◌≡◌, Bool, true, false, not, ◌&&◌, List, get_or, length, leb, eqb}
+use Rattle.std.specs.Prelude.{ℕ, zero, suc, ◌+◌, ◌*◌, ◌-◌, ◌/◌, ◌%◌, ◌^◌, ◌<◌, ◌≤◌, ◌≡◌, Bool, true, false, not, ◌&&◌, List, get_or, length, leb, eqb, Option as Answer, None, Some}
 use Rattle.std.proofs.Math.Option.{Option}
 use Rattle.std.specs.Int.Bits.{bit_and, bit_xor}
-use Rattle.lattice.specs.Table.{every, last, implies, below, found, sized, cell, wanted}
+use Rattle.lattice.specs.Table.{every, last, implies, below, found, sized, answer, wanted}
 
 -- a bit as a number
 abbrev pub digit : Bool → ℕ
@@ -93,9 +93,9 @@ word_restores ws lower over c = eqb (bit_and (get_or ws c 0) over) lower
 abbrev pub Restoring : ℕ → List ℕ → ℕ → ℕ → ℕ → Type 0
 Restoring k ws lower over u = (m : ℕ) → part_of u m ≡ every k λ c. implies (word_restores ws lower over c) (part_of (get_or ws c 0) m)
 
--- r is the wanted type for the type p in s and the type over it whose word is `over`, or 64 where there is none.
-abbrev pub WantedOver : ℕ → List ℕ → List ℕ → ℕ → ℕ → ℕ → Type 0
-WantedOver n t ws p over r = (q : ℕ) → q < n → over ≡ get_or ws q 0 → r ≡ cell (wanted n t p q)
+-- r answers the wanted type for the type p in s and the type over it whose word is `over`.
+abbrev pub WantedOver : ℕ → List ℕ → List ℕ → ℕ → ℕ → Answer ℕ → Type 0
+WantedOver n t ws p over r = (q : ℕ) → q < n → over ≡ get_or ws q 0 → r ≡ answer (wanted n t p q)
 
 module _ (n : ℕ) (ws : List ℕ) where
   -- the last type whose word is w, if there is one
@@ -153,12 +153,11 @@ pub record Spans (ws : List ℕ) (i x c : ℕ) : Type 0 where
 abbrev pub Spanned : List ℕ → ℕ → Type 0
 Spanned ws i = (x : ℕ) → bit (strictly ws i) x ≡ true → (c : ℕ) × Spans ws i x c
 
--- an answer and a word for type i: for true, i is spanned; for false, a pair of i is not ordered; in an order, the word has the types
--- that i covers
-pub record CoversOf (n : ℕ) (ws : List ℕ) (i : ℕ) (answer : Bool) (w : ℕ) : Type 0 where
-  pub yes-stands : answer ≡ true → Spanned ws i
-  pub no-stands : answer ≡ false → pairs_ordered ws i ≡ false
-  pub covers : Lower n ws → Covered n ws i w
+-- an answer for type i: none where a pair of i is not ordered, so never in an order; else i is spanned, and in an order the word has the
+-- types that i covers
+abbrev pub CoversOf : ℕ → List ℕ → ℕ → Answer ℕ → Type 0
+CoversOf n ws i None = (pairs_ordered ws i ≡ false) × (Lower n ws → ⊥)
+CoversOf n ws i (Some w) = Spanned ws i × (Lower n ws → Covered n ws i w)
 
 module _ (n : ℕ) (ws : List ℕ) where
   -- An answer to whether type a has a bound with each type of w. A no says only that not every two types of the table have a bound.

@@ -69,56 +69,31 @@ pub fn with_bit(word: u64, j: usize, stands: bool) -> u64
     word + ((stands as u64) << j)
 }
 
-// The byte at a place, or 0 past the end of the table.
-fn byte_at(table: &[u8], at: usize) -> u64
-    ensures { (result ≡ get_or table.now at 0) × (result < 256) }
-{
-    if at < table.len() {
-        table[at] as u64
-    } else {
-        0
-    }
-}
-
-// The word of the types below type i, whose eight bytes are all in the table.
-fn read_whole(table: &[u8], i: usize) -> u64
-    requires { (i < 64) × (8 * i + 8 ≤ length table.now) }
-    ensures { result ≡ word 64 (related table.now false i) }
+// The word of a row, from at most eight bytes. Bytes that are missing count as 0.
+fn read_row(row: &[u8]) -> u64
+    requires { length row.now ≤ 8 }
+    ensures { result ≡ word 64 (related row.now false 0) }
 {
     let mut word = 0u64;
-    let mut k = 0;
-    while k < 8 {
-        let byte = table[8 * i + k] as u64;
-        word += byte << (8 * k);
-        k += 1;
+    for (k, byte) in row.iter().enumerate() {
+        word += (*byte as u64) << (8 * k);
     }
     word
 }
 
-// The same for a table that may end before the eight bytes do.
-fn read_cut(table: &[u8], i: usize) -> u64
-    requires { i < 64 }
-    ensures { result ≡ word 64 (related table.now false i) }
-{
-    let mut word = 0u64;
-    let mut k = 0;
-    while k < 8 {
-        let byte = byte_at(table, 8 * i + k);
-        word += byte << (8 * k);
-        k += 1;
-    }
-    word
-}
-
-// The word of the types below type i.
+// The word of the types below type i. Past the end of the table no bit is set. A whole row has a known length, so that it is read at once.
 fn read_word(table: &[u8], i: usize) -> u64
     requires { i < 64 }
     ensures { result ≡ word 64 (related table.now false i) }
 {
-    if 8 * i + 8 <= table.len() {
-        return read_whole(table, i);
+    let start = 8 * i;
+    if start + 8 <= table.len() {
+        return read_row(&table[start..start + 8]);
     }
-    read_cut(table, i)
+    if table.len() <= start {
+        return 0;
+    }
+    read_row(&table[start..])
 }
 
 // The words of the types below each type below n.
@@ -127,10 +102,8 @@ pub fn read_words(n: usize, table: &[u8]) -> [u64; 64]
     ensures { Words n table.now false result }
 {
     let mut words = [0u64; 64];
-    let mut i = 0;
-    while i < n {
+    for i in 0..n {
         words[i] = read_word(table, i);
-        i += 1;
     }
     words
 }
@@ -141,9 +114,7 @@ pub fn turn_word(n: usize, words: &[u64; 64], i: usize) -> u64
     ensures { result ≡ turned n words.now i }
 {
     let mut word = 0u64;
-    let mut j = n;
-    while 0 < j {
-        j -= 1;
+    for j in (0..n).rev() {
         word = 2 * word + (words[j] >> i) % 2;
     }
     word
@@ -169,10 +140,8 @@ pub fn turn_words(n: usize, words: &[u64; 64]) -> [u64; 64]
     ensures { (i : ℕ) → i < n → get_or result i 0 ≡ turned n words.now i }
 {
     let mut result = [0u64; 64];
-    let mut j = 0;
-    while j < n {
-        spread(words[j], j, &mut result);
-        j += 1;
+    for (j, word) in words[..n].iter().enumerate() {
+        spread(*word, j, &mut result);
     }
     result
 }

@@ -1,13 +1,13 @@
 // This crate lays out a decoded graph in one slice of words: the number of nodes, where each row begins, and the rows, each a header and
 // one word for each link. All crates that compute on graphs share this layout. The crate knows labels and words, and nothing of a
-// record's bytes.
+// record's bytes. Nodes stand in words and not in boxes or vectors, since the engine has no heap.
 
 #![tactic(auto)]
 
-ghost use Rattle.std.specs.Prelude.{◌≡◌, ◌+◌, ◌/◌, ◌%◌, ◌≤◌, ◌<◌, max, min, length};
+ghost use Rattle.std.specs.Prelude.{◌≡◌, ◌+◌, ◌/◌, ◌%◌, ◌≤◌, ◌<◌, length, slice_range};
 ghost use Rattle.lattice.specs.Label.{is_full};
-ghost use Rattle.lattice.specs.Labels.{Known};
-ghost use Rattle.layout.specs.Layout.{Shaped, header, label_at, label_from, link_word, links_from, scale, size};
+ghost use Rattle.lattice.specs.Labels.{Known, join_ranged};
+ghost use Rattle.layout.specs.Layout.{Node, Shaped, header, label_at, label_from, link_word, links_from, row_end, scale, size};
 ghost use Rattle.layout.specs.Builder.{put_label, stated};
 
 // The length of a row's header, which holds the node's label: its type, and its range of levels.
@@ -43,24 +43,15 @@ pub fn is_full(label: Label) -> bool
     label.lowest as u16 * LEVELS + label.highest as u16 == FULL
 }
 
-// The lesser of two levels.
-pub fn lesser(a: u8, b: u8) -> u8
-    ensures { result ≡ min a b }
+// The label of a type with the smallest range that holds the ranges of both labels.
+pub fn hull(kind: u8, a: Label, b: Label) -> Label
+    ensures { stated result ≡ join_ranged (λ _ _. kind) (stated a) (stated b) }
 {
-    if a < b {
-        return a;
+    Label {
+        kind,
+        lowest: a.lowest.min(b.lowest),
+        highest: a.highest.max(b.highest),
     }
-    b
-}
-
-// The greater of two levels.
-pub fn greater(a: u8, b: u8) -> u8
-    ensures { result ≡ max a b }
-{
-    if b < a {
-        return a;
-    }
-    b
 }
 
 // Stores a label as the header at a place.
@@ -83,6 +74,14 @@ pub fn label_from(words: &[u16], at: usize) -> Label
         lowest: (range / LEVELS) as u8,
         highest: (range % LEVELS) as u8,
     }
+}
+
+// The number of nodes.
+pub fn size(graph: &[u16]) -> usize
+    requires { 0 < length graph.now }
+    ensures { result ≡ size graph.now }
+{
+    graph[0] as usize
 }
 
 // The label of a node.
@@ -121,4 +120,12 @@ pub fn links_from(graph: &[u16], v: usize) -> usize
     ensures { result ≡ links_from graph.now v }
 {
     graph[v + 1] as usize + HEADER
+}
+
+// The words of a node's links, features ascending.
+pub fn links(graph: &[u16], v: usize) -> &[u16]
+    requires { Node graph.now v }
+    ensures { result.now ≡ slice_range graph.now (links_from graph.now v) (row_end graph.now v) }
+{
+    &graph[links_from(graph, v)..graph[v + 2] as usize]
 }

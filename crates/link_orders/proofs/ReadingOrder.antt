@@ -14,7 +14,7 @@ use borrow.Author.Tests.{leb-true, le-leb, eqb-true, eq-eqb, ne_eqb}
 use Rattle.graphs.specs.Rows.{from}
 use Rattle.graphs.specs.Difference.{place_in}
 use Rattle.graphs.proofs.Lists.{from-range, length_from, remove, distinct-bound, distinct_from, full-places, get_or-member}
-use Rattle.graphs.proofs.Search.{not-true-false, true-both}
+use Rattle.graphs.proofs.Search.{true-false, not-true-false, true-both}
 use Rattle.lattice.specs.Table.{every}
 use Rattle.lattice.proofs.Every.{and_left, and_right, every-at, every-all}
 use Rattle.link_orders.specs.LinkOrders.{is_reading_order, EachOnce}
@@ -118,20 +118,20 @@ reading-order list = (
   λ o. reading-back list (once-reading o),
 )
 
--- The test has passed the places before i. `seen` has 1 for exactly the features at these places, and no feature came twice.
-pub record Scanned (list : List ℕ) (i : ℕ) (seen : List ℕ) : Type 0 where
+-- The test has passed the places before i. `seen` has true for exactly the features at these places, and no feature came twice.
+pub record Scanned (list : List ℕ) (i : ℕ) (seen : List Bool) : Type 0 where
   pub high : i ≤ 64
   pub long : length list ≡ 64
   pub seen-long : length seen ≡ 64
   pub low : (k : ℕ) → k < i → get_or list k 0 < 64
   pub apart : (j k : ℕ) → j < k → k < i → get_or list j 0 ≡ get_or list k 0 → ⊥
-  pub told : (f : ℕ) → f < 64 → get_or seen f 0 ≡ 1 → (j : ℕ) × (j < i) × (get_or list j 0 ≡ f)
-  pub met : (j : ℕ) → j < i → get_or seen (get_or list j 0) 0 ≡ 1
+  pub told : (f : ℕ) → f < 64 → get_or seen f false ≡ true → (j : ℕ) × (j < i) × (get_or list j 0 ≡ f)
+  pub met : (j : ℕ) → j < i → get_or seen (get_or list j 0) false ≡ true
 
 pub not-long : (list : List ℕ) → (length list ≡ 64 → ⊥) → false ≡ is_reading_order list
 not-long list d = sym (not-true-false (is_reading_order list) λ e. d (reading list e).long)
 
-pub scanned-start : {list seen : List ℕ} → length list ≡ 64 → length seen ≡ 64 → ((f : ℕ) → f < 64 → get_or seen f 0 ≡ 0) → Scanned list 0 seen
+pub scanned-start : {list : List ℕ} {seen : List Bool} → length list ≡ 64 → length seen ≡ 64 → ((f : ℕ) → f < 64 → get_or seen f false ≡ false) → Scanned list 0 seen
 scanned-start long room clear =
     record {
       high = omega arith;
@@ -139,11 +139,11 @@ scanned-start long room clear =
       seen-long = room;
       low = λ k h. absurd (omega arith);
       apart = λ j k h l. absurd (omega arith);
-      told = λ f h e. absurd (omega (arith, clear f h));
+      told = λ f h e. true-false e (clear f h);
       met = λ j h. absurd (omega arith);
     }
 
-module _ {list : List ℕ} {i : ℕ} {seen : List ℕ} (c : Scanned list i seen) where
+module _ {list : List ℕ} {i : ℕ} {seen : List Bool} (c : Scanned list i seen) where
   pub scanned-done : 64 ≤ i → true ≡ is_reading_order list
   scanned-done h =
       sym (reading-back list
@@ -153,17 +153,17 @@ module _ {list : List ℕ} {i : ℕ} {seen : List ℕ} (c : Scanned list i seen)
     pub scanned-high : 64 ≤ get_or list i 0 → false ≡ is_reading_order list
     scanned-high h = sym (not-true-false (is_reading_order list) λ e. omega (arith, (reading list e).low i more))
 
-    pub scanned-twice : get_or list i 0 < 64 → get_or seen (get_or list i 0) 0 ≡ 1 → false ≡ is_reading_order list
+    pub scanned-twice : get_or list i 0 < 64 → get_or seen (get_or list i 0) false ≡ true → false ≡ is_reading_order list
     scanned-twice h e =
         let (j, l, q) = c.told (get_or list i 0) h e in
         sym (not-true-false (is_reading_order list) λ p. (reading list p).apart j i l more q)
 
-    pub scanned-next : get_or list i 0 < 64 → (get_or seen (get_or list i 0) 0 ≡ 1 → ⊥) → Scanned list (i + 1) (set seen (get_or list i 0) 1)
+    pub scanned-next : get_or list i 0 < 64 → (get_or seen (get_or list i 0) false ≡ true → ⊥) → Scanned list (i + 1) (set seen (get_or list i 0) true)
     scanned-next small new =
         record {
           high = omega arith;
           long = c.long;
-          seen-long = length-set seen (get_or list i 0) 1 ∙ c.seen-long;
+          seen-long = length-set seen (get_or list i 0) true ∙ c.seen-long;
           low = λ k h. low k h (ℕ_discrete k i);
           apart = λ j k h l. apart j k h l (ℕ_discrete k i);
           told = λ f h e. told f h e (ℕ_discrete f (get_or list i 0));
@@ -176,22 +176,22 @@ module _ {list : List ℕ} {i : ℕ} {seen : List ℕ} (c : Scanned list i seen)
 
         apart : (j k : ℕ) → j < k → k < i + 1 → Dec (k ≡ i) → get_or list j 0 ≡ get_or list k 0 → ⊥
         apart j k h l (yes e) q =
-            new (ap (λ (x : ℕ). get_or seen x 0) (sym (q ∙ ap (λ (x : ℕ). get_or list x 0) e)) ∙ c.met j (omega arith))
+            new (ap (λ (x : ℕ). get_or seen x false) (sym (q ∙ ap (λ (x : ℕ). get_or list x 0) e)) ∙ c.met j (omega arith))
         apart j k h l (no d) q = c.apart j k h (omega arith) q
 
-        told : (f : ℕ) → f < 64 → get_or (set seen (get_or list i 0) 1) f 0 ≡ 1 → Dec (f ≡ get_or list i 0) →
+        told : (f : ℕ) → f < 64 → get_or (set seen (get_or list i 0) true) f false ≡ true → Dec (f ≡ get_or list i 0) →
             (j : ℕ) × (j < i + 1) × (get_or list j 0 ≡ f)
         told f h e (yes q) = (i, omega arith, sym q)
         told f h e (no d) =
-            let (j, l, q) = c.told f h (sym (get_or-set_other seen (get_or list i 0) f 1 0 d) ∙ e) in
+            let (j, l, q) = c.told f h (sym (get_or-set_other seen (get_or list i 0) f true false d) ∙ e) in
             (j, omega arith, q)
 
-        met : (j : ℕ) → j < i + 1 → Dec (get_or list j 0 ≡ get_or list i 0) → Dec (j ≡ i) → get_or (set seen (get_or list i 0) 1) (get_or list j 0) 0 ≡ 1
+        met : (j : ℕ) → j < i + 1 → Dec (get_or list j 0 ≡ get_or list i 0) → Dec (j ≡ i) → get_or (set seen (get_or list i 0) true) (get_or list j 0) false ≡ true
         met j h (yes e) x =
-            ap (λ (f : ℕ). get_or (set seen (get_or list i 0) 1) f 0) e ∙
-            get_or-set_same seen (get_or list i 0) 1 0 (omega (arith, c.seen-long))
+            ap (λ (f : ℕ). get_or (set seen (get_or list i 0) true) f false) e ∙
+            get_or-set_same seen (get_or list i 0) true false (omega (arith, c.seen-long))
         met j h (no d) (yes x) = absurd (d (ap (λ (k : ℕ). get_or list k 0) x))
-        met j h (no d) (no x) = get_or-set_other seen (get_or list i 0) (get_or list j 0) 1 0 d ∙ c.met j (omega arith)
+        met j h (no d) (no x) = get_or-set_other seen (get_or list i 0) (get_or list j 0) true false d ∙ c.met j (omega arith)
 
 -- The place of each feature.
 

@@ -12,12 +12,11 @@ ghost use Rattle.link_orders.specs.LinkOrders.{Fitting, Ranks, earlier_by, is_re
 // The number of features.
 pub const FEATURES: usize = 64;
 
-// An order of links. If `listed`, links are ordered by the feature's place in `list`, then by parent number; else by parent number, then
-// by feature.
+// An order of links: by parent number, then by feature; or by the feature's place in a list, then by parent number.
 #[derive(Clone, Copy)]
-pub struct LinkOrder {
-    pub listed: bool,
-    pub list: [u8; FEATURES],
+pub enum LinkOrder {
+    ByNumber,
+    ByList([u8; FEATURES]),
 }
 
 // Whether a list has all 64 features, each once.
@@ -27,18 +26,16 @@ pub fn is_reading_order(list: &[u8]) -> bool
     if list.len() != FEATURES {
         return false;
     }
-    let mut seen = [0u8; FEATURES];
-    let mut i = 0;
-    while i < FEATURES {
-        let f = list[i] as usize;
+    let mut seen = [false; FEATURES];
+    for &feature in list {
+        let f = feature as usize;
         if f >= FEATURES {
             return false;
         }
-        if seen[f] == 1 {
+        if seen[f] {
             return false;
         }
-        seen[f] = 1;
-        i += 1;
+        seen[f] = true;
     }
     true
 }
@@ -47,10 +44,7 @@ pub fn is_reading_order(list: &[u8]) -> bool
 pub fn by_number() -> LinkOrder
     ensures { Fitting result × (earlier_by result ≡ by_number) }
 {
-    LinkOrder {
-        listed: false,
-        list: [0u8; FEATURES],
-    }
+    LinkOrder::ByNumber
 }
 
 // The order "by the feature's place in the list, then by parent number" (document 02, Paper 10), for a list of all 64 features, each once.
@@ -59,15 +53,8 @@ pub fn by_list(list: &[u8]) -> LinkOrder
     ensures { Fitting result × (earlier_by result ≡ by_reading list.now) }
 {
     let mut copy = [0u8; FEATURES];
-    let mut i = 0;
-    while i < FEATURES {
-        copy[i] = list[i];
-        i += 1;
-    }
-    LinkOrder {
-        listed: true,
-        list: copy,
-    }
+    copy.copy_from_slice(list);
+    LinkOrder::ByList(copy)
 }
 
 // The place of each feature in a list of all 64 features, each once.
@@ -76,11 +63,8 @@ fn places(list: &[u8; FEATURES]) -> [u8; FEATURES]
     ensures { (length result ≡ 64) × ((f : ℕ) → f < 64 → get_or result f 0 ≡ place_in list.now f) }
 {
     let mut at = [0u8; FEATURES];
-    let mut i = 0;
-    while i < FEATURES {
-        let f = list[i] as usize;
-        at[f] = i as u8;
-        i += 1;
+    for (i, &feature) in list.iter().enumerate() {
+        at[feature as usize] = i as u8;
     }
     at
 }
@@ -90,8 +74,8 @@ pub fn ranks(order: LinkOrder) -> [u8; FEATURES]
     requires { Fitting order }
     ensures { Ranks order result }
 {
-    if order.listed {
-        return places(&order.list);
+    match order {
+        LinkOrder::ByNumber => [0u8; FEATURES],
+        LinkOrder::ByList(list) => places(&list),
     }
-    [0u8; FEATURES]
 }

@@ -10,7 +10,7 @@ use borrow.Author.Tests.{eqb-true, not-true, not-false}
 use lib.Dec.{eqb}
 use lib.ListN.{length}
 use Rattle.encode.specs.Encode.{fitted}
-use Rattle.replies.specs.declared.Reply.TheVariants.{End, FeatureCount, NotListed}
+use Rattle.replies.specs.Replies.{End, FeatureCount, NotListed}
 use Rattle.replies.specs.Reply.{Result, result_of, refusing}
 use Rattle.listed.specs.Listing.{span, Run, raised, record_of, is_listed, following}
 use Rattle.listed.specs.Numbers.{numbers_of, least_links0}
@@ -19,8 +19,7 @@ use Rattle.listed.proofs.Stated.{Counts}
 use Rattle.listed.proofs.Places.{Small, run_small, run-count}
 use Rattle.listed.proofs.Following.{first_run, following-first, not_listed, numbers-listed, following-numbers, raised-run}
 use Rattle.listing.specs.declared.numbers.Numbers.{Numbers}
-use Rattle.listing.specs.declared.raising.Raised.{Raised}
-use Rattle.listing.specs.Numbers.{number_list, raised_list, Nodes}
+use Rattle.listing.specs.Numbers.{number_list, Nodes}
 use Rattle.listing.specs.Call.{begins, delivered, continued, counted}
 
 -- 23 is given where F is neither 1 nor 2.
@@ -56,15 +55,6 @@ module _ (F : ℕ) {b : Bool} (tells : b ≡ (eqb F 1 || eqb F 2)) where
 pub denied : {b : Bool} → not b ≡ true → b ≡ true → ⊥
 denied {b} e q = false-true (sym (not-true b e) ∙ q)
 
--- whether numbers could be raised
-
-module _ (r : Raised) where
-  pub not-raised : not r.more ≡ true → raised_list r ≡ none
-  not-raised e = ap (λ (b : Bool). cond {A = Option (List ℕ)} b (some (number_list r.numbers)) none) (not-true r.more e)
-
-  pub raised-to : not r.more ≡ false → raised_list r ≡ some (number_list r.numbers)
-  raised-to e = ap (λ (b : Bool). cond {A = Option (List ℕ)} b (some (number_list r.numbers)) none) (not-false r.more e)
-
 begins-listed : (n F : ℕ) (bytes : List ℕ) → 0 < length bytes → begins n F bytes ≡ is_listed n F bytes
 begins-listed n F [] h = absurd (omega arith)
 begins-listed n F (b ∷ bs) h = refl
@@ -86,8 +76,8 @@ module _ (n F : ℕ) (out : List ℕ) where
     -- Numbers within their bounds state a record that can be written.
     pub run-written : (d : Numbers) → Run (span n F) [] (number_list d) → Nodes d × Small (record_of (number_list d))
     run-written d r = (
-      run-count n F d.nodes d.type0 d.links0 d.type1 d.links1 d.type2 d.links2 r,
-      run_small n F d.nodes d.type0 d.links0 d.type1 d.links1 d.type2 d.links2 small r,
+      run-count n F _ _ _ _ _ _ _ r,
+      run_small n F _ _ _ _ _ _ _ small r,
     )
 
     pub first-written : (d : Numbers) → number_list d ≡ 1 ∷ 1 ∷ least_links0 F 1 → Nodes d × Small (record_of (number_list d))

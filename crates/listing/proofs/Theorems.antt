@@ -9,27 +9,27 @@ use native.Mathlib.Omega.{arith}
 use borrow.Author.Tests.{eq-eqb, le-leb}
 use lib.Dec.{eqb, leb}
 use lib.ListN.{length, drop}
+use Rattle.std.specs.Prelude.{Ok, Err}
 use Rattle.graphs.specs.Graph.{Graph as GraphOn, TellsApart, Reached, SameMeaning}
 use Rattle.graphs.specs.Rows.{Row}
 use Rattle.graphs.specs.Number.{canonical, written}
 use Rattle.acceptance.specs.declared.TableFault.{TableFault}
-use Rattle.acceptance.specs.declared.Opened.{Opened}
-use Rattle.acceptance.specs.declared.Opened.TheVariants as opened
+use Rattle.acceptance.specs.Reply.{TableAnswer}
 use Rattle.lattice.specs.Label.{Label, is_full}
 use Rattle.lattice.specs.Labels.{table_labels, OfAnySize}
 use Rattle.acceptance.specs.Reply as table
 use Rattle.lattice.proofs.Laws.{accepted-size}
 use Rattle.acceptance.proofs.Acceptance.{opened-accepted}
 use Rattle.encoder.specs.Encode.{encoded}
-use Rattle.encode.specs.declared.Written.TheVariants as outcome
+use Rattle.encode.specs.declared.Unwritten.TheVariants as unwritten
 use Rattle.encode.specs.Encode.{yielding, fitted}
 use Rattle.record.specs.declared.GraphFault.{GraphFault}
 use Rattle.record.specs.Read as graph
 use Rattle.record.proofs.Theorems.{accepted-fits, written-accepted}
 use Rattle.record.proofs.Accepted.{accepted-injective}
 use Rattle.replies.specs.declared.Side.TheVariants.{First}
-use Rattle.replies.specs.declared.Reply.{Reply}
-use Rattle.replies.specs.declared.Reply.TheVariants.{Length, End, Table, Graph, NoRoom, FeatureCount, NotListed}
+use Rattle.replies.specs.Replies.{Reply}
+use Rattle.replies.specs.Replies.{Length, End, Table, Graph, NoRoom, FeatureCount, NotListed}
 use Rattle.replies.specs.Reply.{Result, resulting, result_of, refusing}
 use Rattle.listed.specs.Listing.{precedes, Listed, LeastAbove, features_below, unranged_rows, stated_rows, listing, is_listed, following, calls}
 use Rattle.listed.proofs.Order.{false-true}
@@ -91,20 +91,20 @@ counts-false F h = go (eqb F 1 || eqb F 2) refl
 module _ (n : ℕ) (t : List ℕ) (F : ℕ) (bytes out : List ℕ) where
   -- The refusals in their order. The table's 1 to 3 come first.
 
-  pub table-refused : (fault : TableFault) → table.opened n t ≡ opened.Refused fault → stepping n t F bytes out ≡ refusing (Table fault) out
+  pub table-refused : (fault : TableFault) → table.opened n t ≡ Err fault → stepping n t F bytes out ≡ refusing (Table fault) out
   unfolding stepping
-  table-refused fault e = ap (λ (o : Opened). after_table o out (stepped n F bytes out)) e
+  table-refused fault e = ap (λ (o : TableAnswer). after_table o out (stepped n F bytes out)) e
 
-  module _ (ok : table.opened n t ≡ opened.Accepted) where
+  module _ (ok : table.opened n t ≡ Ok tt) where
     over : stepping n t F bytes out ≡ stepped n F bytes out
     unfolding stepping
-    over = ap (λ (o : Opened). after_table o out (stepped n F bytes out)) ok
+    over = ap (λ (o : TableAnswer). after_table o out (stepped n F bytes out)) ok
 
     low : 2 ≤ n
-    low = (accepted-size n t (opened-accepted n t opened.Accepted (sym ok) refl)).0
+    low = (accepted-size n t (opened-accepted n t (Ok tt) (sym ok) refl)).0
 
     small : n ≤ 64
-    small = (accepted-size n t (opened-accepted n t opened.Accepted (sym ok) refl)).1
+    small = (accepted-size n t (opened-accepted n t (Ok tt) (sym ok) refl)).1
 
     -- The record's own 4 to 7, as the first graph, come next.
     pub record-refused : (fault : GraphFault) → (bytes ≡ [] → ⊥) → graph.reading n bytes ≡ graph.refused fault →
@@ -175,25 +175,25 @@ module _ (n : ℕ) (t : List ℕ) (F : ℕ) (bytes out : List ℕ) where
 
 -- Every case of a call, and what it gives there.
 pub data Told (n : ℕ) (t : List ℕ) (F : ℕ) (bytes out : List ℕ) : Type 0 where
-  bad-table : (fault : TableFault) → table.opened n t ≡ opened.Refused fault → stepping n t F bytes out ≡ refusing (Table fault) out → Told n t F bytes out
-  bad-record : (fault : GraphFault) → table.opened n t ≡ opened.Accepted → (bytes ≡ [] → ⊥) → graph.reading n bytes ≡ graph.refused fault →
+  bad-table : (fault : TableFault) → table.opened n t ≡ Err fault → stepping n t F bytes out ≡ refusing (Table fault) out → Told n t F bytes out
+  bad-record : (fault : GraphFault) → table.opened n t ≡ Ok tt → (bytes ≡ [] → ⊥) → graph.reading n bytes ≡ graph.refused fault →
       stepping n t F bytes out ≡ refusing (Graph fault First) out → Told n t F bytes out
-  bad-count : table.opened n t ≡ opened.Accepted → Read n bytes → (Counts F → ⊥) → stepping n t F bytes out ≡ refusing FeatureCount out → Told n t F bytes out
-  not_listed : (rows : List (Row Label)) → table.opened n t ≡ opened.Accepted → Counts F → (bytes ≡ [] → ⊥) → graph.reading n bytes ≡ graph.accepted rows →
+  bad-count : table.opened n t ≡ Ok tt → Read n bytes → (Counts F → ⊥) → stepping n t F bytes out ≡ refusing FeatureCount out → Told n t F bytes out
+  not_listed : (rows : List (Row Label)) → table.opened n t ≡ Ok tt → Counts F → (bytes ≡ [] → ⊥) → graph.reading n bytes ≡ graph.accepted rows →
       (Listed n F bytes → ⊥) → stepping n t F bytes out ≡ refusing NotListed out → Told n t F bytes out
-  at-end : table.opened n t ≡ opened.Accepted → Counts F → Begun n F bytes → following n F bytes ≡ none → stepping n t F bytes out ≡ refusing End out →
+  at-end : table.opened n t ≡ Ok tt → Counts F → Begun n F bytes → following n F bytes ≡ none → stepping n t F bytes out ≡ refusing End out →
       Told n t F bytes out
-  at-record : (r : List ℕ) → table.opened n t ≡ opened.Accepted → Counts F → Begun n F bytes → following n F bytes ≡ some r →
+  at-record : (r : List ℕ) → table.opened n t ≡ Ok tt → Counts F → Begun n F bytes → following n F bytes ≡ some r →
       stepping n t F bytes out ≡ result_of (fitted r out) → Told n t F bytes out
 
 pub told : (n : ℕ) (t : List ℕ) (F : ℕ) (bytes out : List ℕ) → Told n t F bytes out
 told n t F bytes out = tabled (table.opened n t) refl
   where
-    begun : table.opened n t ≡ opened.Accepted → Counts F → Begun n F bytes → (o : Option (List ℕ)) → following n F bytes ≡ o → Told n t F bytes out
+    begun : table.opened n t ≡ Ok tt → Counts F → Begun n F bytes → (o : Option (List ℕ)) → following n F bytes ≡ o → Told n t F bytes out
     begun ok f b none e = at-end ok f b e (delivers n t F bytes out ok f b ∙ ap (λ (o : Option (List ℕ)). delivered o out) e)
     begun ok f b (some r) e = at-record r ok f b e (delivers n t F bytes out ok f b ∙ ap (λ (o : Option (List ℕ)). delivered o out) e)
 
-    listed : table.opened n t ≡ opened.Accepted → Counts F → (bytes ≡ [] → ⊥) → (rows : List (Row Label)) → graph.reading n bytes ≡ graph.accepted rows →
+    listed : table.opened n t ≡ Ok tt → Counts F → (bytes ≡ [] → ⊥) → (rows : List (Row Label)) → graph.reading n bytes ≡ graph.accepted rows →
         (b : Bool) → is_listed n F bytes ≡ b → Told n t F bytes out
     listed ok f h rows e true q =
         begun ok f (inr ((list-calls.is-listed n F (low n t F bytes out ok) (small n t F bytes out ok) f bytes).0 q)) (following n F bytes) refl
@@ -202,24 +202,24 @@ told n t F bytes out = tabled (table.opened n t) refl
         λ l. false-true (sym q ∙ (list-calls.is-listed n F (low n t F bytes out ok) (small n t F bytes out ok) f bytes).1 l) in
         not_listed rows ok f h e no (unlisted-refused n t F bytes out ok f rows e h no)
 
-    count : table.opened n t ≡ opened.Accepted → Read n bytes → (Counts F → Told n t F bytes out) → (b : Bool) → (eqb F 1 || eqb F 2) ≡ b → Told n t F bytes out
+    count : table.opened n t ≡ Ok tt → Read n bytes → (Counts F → Told n t F bytes out) → (b : Bool) → (eqb F 1 || eqb F 2) ≡ b → Told n t F bytes out
     count ok r next true e = next (counts-told F e)
     count ok r next false e =
         let no : Counts F → ⊥ = λ f. false-true (sym e ∙ counts-true F f) in bad-count ok r no (count-refused n t F bytes out ok r no)
 
-    rowed : table.opened n t ≡ opened.Accepted → (bytes ≡ [] → ⊥) → (o : graph.Reading) → graph.reading n bytes ≡ o → Told n t F bytes out
+    rowed : table.opened n t ≡ Ok tt → (bytes ≡ [] → ⊥) → (o : graph.Reading) → graph.reading n bytes ≡ o → Told n t F bytes out
     rowed ok h (graph.refused fault) e = bad-record fault ok h e (record-refused n t F bytes out ok fault h e)
     rowed ok h (graph.accepted rows) e =
         count ok (inr (rows, e)) (λ f. listed ok f h rows e (is_listed n F bytes) refl) (eqb F 1 || eqb F 2) refl
 
-    byted : table.opened n t ≡ opened.Accepted → (l : List ℕ) → bytes ≡ l → Told n t F bytes out
+    byted : table.opened n t ≡ Ok tt → (l : List ℕ) → bytes ≡ l → Told n t F bytes out
     byted ok [] e = count ok (inl e) (λ f. begun ok f (inl e) (following n F bytes) refl) (eqb F 1 || eqb F 2) refl
     byted ok (b ∷ bs) e =
         rowed ok (λ q. let s : b ∷ bs ≡ [] = sym e ∙ q in let z : ◌≡◌ {A = ℕ} 0 1 = cc s in absurd (omega arith)) (graph.reading n bytes) refl
 
-    tabled : (o : Opened) → table.opened n t ≡ o → Told n t F bytes out
-    tabled (opened.Refused fault) e = bad-table fault e (table-refused n t F bytes out fault e)
-    tabled opened.Accepted e = byted e bytes refl
+    tabled : (o : TableAnswer) → table.opened n t ≡ o → Told n t F bytes out
+    tabled (Err fault) e = bad-table fault e (table-refused n t F bytes out fault e)
+    tabled (Ok tt) e = byted e bytes refl
 
 -- What is exact.
 
@@ -228,7 +228,7 @@ fitted-reply : (r out : List ℕ) (x : Reply) → x ≡ (result_of (fitted r out
 unfolding fitted
 fitted-reply r out x = go (leb (length r) (length out))
   where
-    go : (b : Bool) → x ≡ (result_of (cond b (yielding (outcome.Length (length r)) (r ++ drop (length r) out)) (yielding outcome.NoRoom out))).reply →
+    go : (b : Bool) → x ≡ (result_of (cond b (yielding (Ok (length r)) (r ++ drop (length r) out)) (yielding (Err unwritten.NoRoom) out))).reply →
         (x ≡ Length (length r)) ⊎ (x ≡ NoRoom)
     go true e = inl e
     go false e = inr e
@@ -238,8 +238,8 @@ unfolding fitted
 fitted-kept r out = go (leb (length r) (length out))
   where
     go : (b : Bool) →
-        ((result_of (cond b (yielding (outcome.Length (length r)) (r ++ drop (length r) out)) (yielding outcome.NoRoom out))).reply ≡ Length (length r) → ⊥) →
-        (result_of (cond b (yielding (outcome.Length (length r)) (r ++ drop (length r) out)) (yielding outcome.NoRoom out))).output ≡ out
+        ((result_of (cond b (yielding (Ok (length r)) (r ++ drop (length r) out)) (yielding (Err unwritten.NoRoom) out))).reply ≡ Length (length r) → ⊥) →
+        (result_of (cond b (yielding (Ok (length r)) (r ++ drop (length r) out)) (yielding (Err unwritten.NoRoom) out))).output ≡ out
     go true h = absurd (h refl)
     go false h = refl
 
@@ -252,11 +252,11 @@ module _ (n : ℕ) (t : List ℕ) (F : ℕ) (bytes out : List ℕ) where
 
   -- 24 is given exactly for records that are accepted and not listed.
   pub unlisted-exactly : (replied ≡ NotListed) ↔
-      ((rows : List (Row Label)) × (table.opened n t ≡ opened.Accepted) × Counts F × (bytes ≡ [] → ⊥) × (graph.reading n bytes ≡ graph.accepted rows) × (Listed n F bytes → ⊥))
+      ((rows : List (Row Label)) × (table.opened n t ≡ Ok tt) × Counts F × (bytes ≡ [] → ⊥) × (graph.reading n bytes ≡ graph.accepted rows) × (Listed n F bytes → ⊥))
   unlisted-exactly = (λ e. go e (told n t F bytes out), λ (rows, ok, f, h, q, l). by (unlisted-refused n t F bytes out ok f rows q h l))
     where
       go : replied ≡ NotListed → Told n t F bytes out →
-          (rows : List (Row Label)) × (table.opened n t ≡ opened.Accepted) × Counts F × (bytes ≡ [] → ⊥) × (graph.reading n bytes ≡ graph.accepted rows) × (Listed n F bytes → ⊥)
+          (rows : List (Row Label)) × (table.opened n t ≡ Ok tt) × Counts F × (bytes ≡ [] → ⊥) × (graph.reading n bytes ≡ graph.accepted rows) × (Listed n F bytes → ⊥)
       go e (bad-table fault ok q) = let s = sym e ∙ by q in let z : ◌≡◌ {A = ℕ} 0 1 = cc s in absurd (omega arith)
       go e (bad-record fault ok h r q) = let s = sym e ∙ by q in let z : ◌≡◌ {A = ℕ} 0 1 = cc s in absurd (omega arith)
       go e (bad-count ok r f q) = let s = sym e ∙ by q in let z : ◌≡◌ {A = ℕ} 0 1 = cc s in absurd (omega arith)
@@ -268,10 +268,10 @@ module _ (n : ℕ) (t : List ℕ) (F : ℕ) (bytes out : List ℕ) where
           (λ (k : NotListed ≡ NoRoom). let z : ◌≡◌ {A = ℕ} 0 1 = cc k in omega arith) (fitted-reply r out NotListed (sym e ∙ by q)))
 
   -- 23 is given exactly where F is neither 1 nor 2, over an accepted table, with no record or an accepted one.
-  pub count-exactly : (replied ≡ FeatureCount) ↔ ((table.opened n t ≡ opened.Accepted) × Read n bytes × (Counts F → ⊥))
+  pub count-exactly : (replied ≡ FeatureCount) ↔ ((table.opened n t ≡ Ok tt) × Read n bytes × (Counts F → ⊥))
   count-exactly = (λ e. go e (told n t F bytes out), λ (ok, r, f). by (count-refused n t F bytes out ok r f))
     where
-      go : replied ≡ FeatureCount → Told n t F bytes out → (table.opened n t ≡ opened.Accepted) × Read n bytes × (Counts F → ⊥)
+      go : replied ≡ FeatureCount → Told n t F bytes out → (table.opened n t ≡ Ok tt) × Read n bytes × (Counts F → ⊥)
       go e (bad-table fault ok q) = let s = sym e ∙ by q in let z : ◌≡◌ {A = ℕ} 0 1 = cc s in absurd (omega arith)
       go e (bad-record fault ok h r q) = let s = sym e ∙ by q in let z : ◌≡◌ {A = ℕ} 0 1 = cc s in absurd (omega arith)
       go e (bad-count ok r f q) = (ok, r, f)
@@ -284,11 +284,11 @@ module _ (n : ℕ) (t : List ℕ) (F : ℕ) (bytes out : List ℕ) where
 
   -- The end is given exactly where no listed record is above the given one.
   pub end-exactly : (replied ≡ End) ↔
-      ((table.opened n t ≡ opened.Accepted) × Counts F × Begun n F bytes × ((s : List ℕ) → Listed n F s → precedes bytes s ≡ true → ⊥))
+      ((table.opened n t ≡ Ok tt) × Counts F × Begun n F bytes × ((s : List ℕ) → Listed n F s → precedes bytes s ≡ true → ⊥))
   end-exactly = (λ e. go e (told n t F bytes out), λ (ok, f, b, h). by (end-given n t F bytes out ok f b h))
     where
       go : replied ≡ End → Told n t F bytes out →
-          (table.opened n t ≡ opened.Accepted) × Counts F × Begun n F bytes × ((s : List ℕ) → Listed n F s → precedes bytes s ≡ true → ⊥)
+          (table.opened n t ≡ Ok tt) × Counts F × Begun n F bytes × ((s : List ℕ) → Listed n F s → precedes bytes s ≡ true → ⊥)
       go e (bad-table fault ok q) = let s = sym e ∙ by q in let z : ◌≡◌ {A = ℕ} 0 1 = cc s in absurd (omega arith)
       go e (bad-record fault ok h r q) = let s = sym e ∙ by q in let z : ◌≡◌ {A = ℕ} 0 1 = cc s in absurd (omega arith)
       go e (bad-count ok r f q) = let s = sym e ∙ by q in let z : ◌≡◌ {A = ℕ} 0 1 = cc s in absurd (omega arith)
@@ -320,10 +320,10 @@ room_for : (F n : ℕ) (r out : List ℕ) → Counts F → Listed n F r → 32 �
 unfolding fitted
 room_for F n r out f l room =
     let short = listed-short n F f r l in
-    ap (λ (b : Bool). result_of (cond b (yielding (outcome.Length (length r)) (r ++ drop (length r) out)) (yielding outcome.NoRoom out)))
+    ap (λ (b : Bool). result_of (cond b (yielding (Ok (length r)) (r ++ drop (length r) out)) (yielding (Err unwritten.NoRoom) out)))
     (le-leb (length r) (length out) (omega arith))
 
-module _ (n : ℕ) (t : List ℕ) (F : ℕ) (out : List ℕ) (ok : table.opened n t ≡ opened.Accepted) (f : Counts F) where
+module _ (n : ℕ) (t : List ℕ) (F : ℕ) (out : List ℕ) (ok : table.opened n t ≡ Ok tt) (f : Counts F) where
   -- "A call with no record, that is one of no bytes, gives the first": the least listed record
   pub first-given : (r : List ℕ) → Listed n F r → ((s : List ℕ) → Listed n F s → (s ≡ r) ⊎ (precedes r s ≡ true)) →
       stepping n t F [] out ≡ result_of (fitted r out)

@@ -1,14 +1,13 @@
 -- What a call of the listing replies and leaves in the output (document 02, Paper 14). The checks are the table's 1 to 3, the record's 4 to 7
 -- where there is a record, 23 and 24; then the call gives the end, "the output then unchanged", or the record, or 8.
-use Rattle.std.specs.Prelude.{Bool, true, cond, ◌||◌, List, [], ◌∷◌, ℕ, eqb}
+use Rattle.std.specs.Prelude.{Bool, true, cond, ◌||◌, List, [], ◌∷◌, ℕ, eqb, Ok, Err}
 use Rattle.std.proofs.Math.Option.{Option, none, some}
-use Rattle.acceptance.specs.declared.Opened.{Opened}
-use Rattle.acceptance.specs.declared.Opened.TheVariants as opened
+use Rattle.acceptance.specs.Reply.{TableAnswer}
 use Rattle.acceptance.specs.Reply as table
 use Rattle.encode.specs.Encode.{fitted}
 use Rattle.record.specs.Read as graph
 use Rattle.replies.specs.declared.Side.TheVariants.{First}
-use Rattle.replies.specs.declared.Reply.TheVariants.{End, Table, Graph, FeatureCount, NotListed}
+use Rattle.replies.specs.Replies.{End, Table, Graph, FeatureCount, NotListed}
 use Rattle.replies.specs.Reply.{Result, result_of, refusing}
 use Rattle.listed.specs.Listing.{is_listed, following}
 
@@ -41,9 +40,9 @@ after_record n [] out next = next
 after_record n (b ∷ bs) out next = after_reading (graph.reading n (b ∷ bs)) out next
 
 -- A refused table gives its number; an accepted one lets the call go on.
-abbrev pub after_table : Opened → List ℕ → Result → Result
-after_table (opened.Refused fault) out next = refusing (Table fault) out
-after_table opened.Accepted out next = next
+abbrev pub after_table : TableAnswer → List ℕ → Result → Result
+after_table (Err fault) out next = refusing (Table fault) out
+after_table (Ok tt) out next = next
 
 -- The call over an accepted table.
 unfoldable pub stepped : ℕ → ℕ → List ℕ → List ℕ → Result

@@ -12,40 +12,33 @@ ghost use Rattle.listed.specs.Listing.{record_of};
 ghost use Rattle.listing.specs.Call.{continued, counted, stepped, stepping};
 ghost use Rattle.listing.specs.Numbers.{number_list, Nodes};
 
-use acceptance::Opened;
 use numbers::Numbers;
-use record::reading::Verdict;
-use replies::{Reply, Side};
+use replies::{Refusal, Reply, Side, Success};
 
 pub mod numbers;
 pub mod raising;
 pub mod spans;
 
 // Writes the record that the numbers state, where it fits.
-fn write(d: Numbers, out: &mut [u8]) -> Reply
-    requires { Nodes d × ((i : ℕ) → get_or (record_of (number_list d)) i 0 < 256) }
-    ensures { resulting result out.new ≡ result_of (fitted (record_of (number_list d)) out.old) }
+fn write(numbers: Numbers, out: &mut [u8]) -> Reply
+    requires { Nodes numbers × ((i : ℕ) → get_or (record_of (number_list numbers)) i 0 < 256) }
+    ensures { resulting result out.new ≡ result_of (fitted (record_of (number_list numbers)) out.old) }
 {
-    let length = numbers::length_of(d);
+    let length = numbers.length();
     if out.len() < length {
-        return Reply::NoRoom;
+        return Err(Refusal::NoRoom);
     }
-    let mut i = 0;
-    while i < length {
-        out[i] = numbers::record_byte(d, i) as u8;
-        i += 1;
+    for (i, byte) in out[..length].iter_mut().enumerate() {
+        *byte = numbers.byte(i) as u8;
     }
-    Reply::Length(length)
+    Ok(Success::Length(length))
 }
 
 // Whether F is 1 or 2.
 fn is_count(features: usize) -> bool
     ensures { result ≡ (eqb features 1 || eqb features 2) }
 {
-    if features == 1 {
-        return true;
-    }
-    features == 2
+    features == 1 || features == 2
 }
 
 // Writes the first listed record.
@@ -54,10 +47,10 @@ fn first(features: usize, out: &mut [u8]) -> Reply
         counted features (continued n features [] out.old) out.old }
 {
     if !is_count(features) {
-        return Reply::FeatureCount;
+        return Err(Refusal::FeatureCount);
     }
-    let d = raising::from_links0(features, 1, 1);
-    write(d, out)
+    let numbers = raising::from_root_links(features, 1, 1);
+    write(numbers, out)
 }
 
 // Writes the listed record after an accepted record, over an accepted table with n types.
@@ -66,20 +59,18 @@ fn go_on(n: usize, features: usize, bytes: &[u8], out: &mut [u8]) -> Reply
     ensures { resulting result out.new ≡ counted features (continued n features bytes.now out.old) out.old }
 {
     if !is_count(features) {
-        return Reply::FeatureCount;
+        return Err(Refusal::FeatureCount);
     }
-    let d = numbers::numbers_of(bytes);
-    if !raising::are_within(n, features, d) {
-        return Reply::NotListed;
+    let numbers = Numbers::of(bytes);
+    if !numbers.are_within(n, features) {
+        return Err(Refusal::NotListed);
     }
-    if !numbers::is_record(d, bytes) {
-        return Reply::NotListed;
+    if !numbers.is_record(bytes) {
+        return Err(Refusal::NotListed);
     }
-    let raised = raising::raise(n, features, d);
-    if !raised.more {
-        return Reply::End;
-    }
-    let next = raised.numbers;
+    let Some(next) = numbers.raised(n, features) else {
+        return Ok(Success::End);
+    };
     write(next, out)
 }
 
@@ -92,20 +83,16 @@ fn next_over(n: usize, features: usize, bytes: &[u8], out: &mut [u8]) -> Reply
         return first(features, out);
     }
     let mut graph = [0u16; layout::LONGEST];
-    let verdict = record::reading::read(n, bytes, &mut graph);
-    match verdict {
-        Verdict::Refused(fault) => Reply::Graph(fault, Side::First),
-        Verdict::Accepted => go_on(n, features, bytes, out),
+    if let Err(fault) = record::reading::read(n, bytes, &mut graph) {
+        return Err(Refusal::Graph(fault, Side::First));
     }
+    go_on(n, features, bytes, out)
 }
 
 // Writes the listed record after the given one, or answers the end. For no bytes it writes the first listed record.
 pub fn next(n: usize, table: &[u8], features: usize, bytes: &[u8], out: &mut [u8]) -> Reply
     ensures { resulting result out.new ≡ stepping n table.now features bytes.now out.old }
 {
-    let opened = acceptance::accept(n, table);
-    match opened {
-        Opened::Refused(fault) => Reply::Table(fault),
-        Opened::Accepted => next_over(n, features, bytes, out),
-    }
+    acceptance::accept(n, table)?;
+    next_over(n, features, bytes, out)
 }

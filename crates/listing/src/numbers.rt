@@ -6,48 +6,29 @@ ghost use Rattle.listed.specs.Numbers.{root_links, numbers_of, row_bytes};
 ghost use Rattle.listed.specs.Numbers.{width as width_of};
 ghost use Rattle.listing.specs.Numbers.{number_list, Nodes};
 
-// The number of nodes, and the type and the links of each of three nodes, by number; a node that is not there has 0 and 0. Links by number: 0,
-// none; 1, 2 and 3, by feature 0, by feature 1 and by both to one node; 4, of the root alone, feature 0 to node 1 and feature 1 to node 2.
+// The type and the links of a node, by number; 0 and 0 where the node is not there. Links by number: 0, none; 1, 2 and 3, by feature 0, by feature 1
+// and by both to one node; 4, of the root alone, feature 0 to node 1 and feature 1 to node 2. They stay numbers, and no enum: the listing counts
+// them, and the definitions `span` and `raised` compare and raise them as numbers.
+#[derive(Clone, Copy)]
+pub struct Node {
+    pub kind: usize,
+    pub links: usize,
+}
+
+// The number of nodes, and nodes 0, 1 and 2.
 #[derive(Clone, Copy)]
 pub struct Numbers {
     pub nodes: usize,
-    pub type0: usize,
-    pub links0: usize,
-    pub type1: usize,
-    pub links1: usize,
-    pub type2: usize,
-    pub links2: usize,
-}
-
-// How many links the number of a node's links stands for.
-fn width(links: usize) -> usize
-    ensures { (result ≡ width_of links) × (result ≤ 2) }
-{
-    if links == 0 {
-        return 0;
-    }
-    if links <= 2 {
-        return 1;
-    }
-    2
+    pub root: Node,
+    pub middle: Node,
+    pub last: Node,
 }
 
 // The byte at a place; 0 behind the end.
 fn byte_at(bytes: &[u8], at: usize) -> usize
     ensures { result ≡ get_or bytes.now at 0 }
 {
-    if at < bytes.len() {
-        bytes[at] as usize
-    } else {
-        0
-    }
-}
-
-// The byte at a place where the node is there, else 0.
-fn byte_if(there: bool, bytes: &[u8], at: usize) -> usize
-    ensures { result ≡ cond there (get_or bytes.now at 0) 0 }
-{
-    if there { byte_at(bytes, at) } else { 0 }
+    bytes.get(at).copied().unwrap_or(0) as usize
 }
 
 // The number of the root's links, by the bytes of a record.
@@ -64,46 +45,6 @@ fn root_links(bytes: &[u8]) -> usize
     4
 }
 
-// The seven numbers that these bytes would have as a listed record.
-pub fn numbers_of(bytes: &[u8]) -> Numbers
-    ensures { number_list result ≡ numbers_of bytes.now }
-{
-    let nodes = byte_at(bytes, 0);
-    let type0 = byte_at(bytes, 1);
-    let links0 = root_links(bytes);
-    let at1 = 10 + width(links0);
-    let type1 = byte_if(2 <= nodes, bytes, at1);
-    let links1 = byte_if(2 <= nodes, bytes, at1 + 1);
-    let at2 = at1 + 9 + width(links1);
-    let type2 = byte_if(3 <= nodes, bytes, at2);
-    let links2 = byte_if(3 <= nodes, bytes, at2 + 1);
-    Numbers {
-        nodes: nodes,
-        type0: type0,
-        links0: links0,
-        type1: type1,
-        links1: links1,
-        type2: type2,
-        links2: links2,
-    }
-}
-
-// The length of the record that the numbers state.
-pub fn length_of(d: Numbers) -> usize
-    requires { Nodes d }
-    ensures { result ≡ length (record_of (number_list d)) }
-{
-    let one = 10 + width(d.links0);
-    if d.nodes == 1 {
-        return one;
-    }
-    let two = one + 9 + width(d.links1);
-    if d.nodes == 2 {
-        return two;
-    }
-    two + 9 + width(d.links2)
-}
-
 // The one node that the links of node v lead to: 2 from node 1, and 1 from the others.
 fn heir_of(v: usize) -> usize
     ensures { result ≡ heir v }
@@ -111,53 +52,118 @@ fn heir_of(v: usize) -> usize
     if v == 1 { 2 } else { 1 }
 }
 
-// The byte at a place of the row of node v.
-fn row_byte(v: usize, label: usize, links: usize, at: usize) -> usize
-    requires { at < 9 + width_of links }
-    ensures { result ≡ get_or (row_bytes v label links) at 0 }
-{
-    if 4 <= links {
-        let row = [label, 3, 0, 0, 0, 0, 0, 0, 0, 1, 2];
-        return row[at];
+impl Node {
+    // The node whose type stands at a place and its links behind it, where the node is there.
+    fn at(there: bool, bytes: &[u8], at: usize) -> Node
+        requires { at < 64 }
+        ensures kind_is { result.kind ≡ cond there (get_or bytes.now at 0) 0 }
+        ensures links_are { result.links ≡ cond there (get_or bytes.now (at + 1) 0) 0 }
+    {
+        if !there {
+            return Node { kind: 0, links: 0 };
+        }
+        Node {
+            kind: byte_at(bytes, at),
+            links: byte_at(bytes, at + 1),
+        }
     }
-    let heir = heir_of(v);
-    let row = [label, links, 0, 0, 0, 0, 0, 0, 0, heir, heir];
-    row[at]
+
+    // How many links the number of the node's links stands for.
+    fn width(self) -> usize
+        ensures { (result ≡ width_of self.links) × (result ≤ 2) }
+    {
+        match self.links {
+            0 => 0,
+            1 | 2 => 1,
+            _ => 2,
+        }
+    }
+
+    // The byte at a place of the row of the node, which is node v.
+    fn row_byte(self, v: usize, at: usize) -> usize
+        requires { at < 9 + width_of self.links }
+        ensures { result ≡ get_or (row_bytes v self.kind self.links) at 0 }
+    {
+        if 4 <= self.links {
+            let row = [self.kind, 3, 0, 0, 0, 0, 0, 0, 0, 1, 2];
+            return row[at];
+        }
+        let heir = heir_of(v);
+        let row = [self.kind, self.links, 0, 0, 0, 0, 0, 0, 0, heir, heir];
+        row[at]
+    }
 }
 
-// The byte at a place of the record that the numbers state.
-pub fn record_byte(d: Numbers, at: usize) -> usize
-    requires { Nodes d × (at < length (record_of (number_list d))) }
-    ensures { result ≡ get_or (record_of (number_list d)) at 0 }
-{
-    if at == 0 {
-        return d.nodes;
+impl Numbers {
+    // The seven numbers that these bytes would have as a listed record.
+    pub fn of(bytes: &[u8]) -> Numbers
+        ensures { number_list result ≡ numbers_of bytes.now }
+    {
+        let nodes = byte_at(bytes, 0);
+        let root = Node {
+            kind: byte_at(bytes, 1),
+            links: root_links(bytes),
+        };
+        let second = 10 + root.width();
+        let middle = Node::at(2 <= nodes, bytes, second);
+        let third = second + 9 + middle.width();
+        let last = Node::at(3 <= nodes, bytes, third);
+        Numbers {
+            nodes,
+            root,
+            middle,
+            last,
+        }
     }
-    let one = 10 + width(d.links0);
-    if at < one {
-        return row_byte(0, d.type0, d.links0, at - 1);
-    }
-    let two = one + 9 + width(d.links1);
-    if at < two {
-        return row_byte(1, d.type1, d.links1, at - one);
-    }
-    row_byte(2, d.type2, d.links2, at - two)
-}
 
-// Whether the bytes are the record that the numbers state.
-pub fn is_record(d: Numbers, bytes: &[u8]) -> bool
-    requires { Nodes d }
-    ensures { (result ≡ true) ↔ (bytes.now ≡ record_of (number_list d)) }
-{
-    if bytes.len() != length_of(d) {
-        return false;
+    // The length of the record that the numbers state.
+    pub fn length(self) -> usize
+        requires { Nodes self }
+        ensures { result ≡ length (record_of (number_list self)) }
+    {
+        let one = 10 + self.root.width();
+        if self.nodes == 1 {
+            return one;
+        }
+        let two = one + 9 + self.middle.width();
+        if self.nodes == 2 {
+            return two;
+        }
+        two + 9 + self.last.width()
     }
-    let mut i = 0;
-    while i < bytes.len() {
-        if bytes[i] as usize != record_byte(d, i) {
+
+    // The byte at a place of the record that the numbers state.
+    pub fn byte(self, at: usize) -> usize
+        requires { Nodes self × (at < length (record_of (number_list self))) }
+        ensures { result ≡ get_or (record_of (number_list self)) at 0 }
+    {
+        if at == 0 {
+            return self.nodes;
+        }
+        let one = 10 + self.root.width();
+        if at < one {
+            return self.root.row_byte(0, at - 1);
+        }
+        let two = one + 9 + self.middle.width();
+        if at < two {
+            return self.middle.row_byte(1, at - one);
+        }
+        self.last.row_byte(2, at - two)
+    }
+
+    // Whether the bytes are the record that the numbers state.
+    pub fn is_record(self, bytes: &[u8]) -> bool
+        requires { Nodes self }
+        ensures { (result ≡ true) ↔ (bytes.now ≡ record_of (number_list self)) }
+    {
+        if bytes.len() != self.length() {
             return false;
         }
-        i += 1;
+        for (i, byte) in bytes.iter().enumerate() {
+            if *byte as usize != self.byte(i) {
+                return false;
+            }
+        }
+        true
     }
-    true
 }

@@ -11,6 +11,15 @@ pub struct Span {
     pub high: usize,
 }
 
+impl Span {
+    // Whether a number is within the span.
+    pub fn contains(self, x: usize) -> bool
+        ensures { (result ≡ true) ↔ ((self.low ≤ x) × (x ≤ self.high)) }
+    {
+        self.low <= x && x <= self.high
+    }
+}
+
 // The span of a node's type over a table with n types, for a node that is there or not.
 pub fn type_span(n: usize, there: bool) -> Span
     requires { 0 < n }
@@ -40,19 +49,13 @@ pub fn root_span(features: usize, nodes: usize) -> Span
     if nodes == 1 {
         return Span { low: 0, high: 0 };
     }
-    if nodes != 3 {
-        return Span {
-            low: 1,
-            high: link_sets(features),
-        };
+    if nodes == 3 && features == 2 {
+        return Span { low: 1, high: 4 };
     }
-    if features != 2 {
-        return Span {
-            low: 1,
-            high: link_sets(features),
-        };
+    Span {
+        low: 1,
+        high: link_sets(features),
     }
-    Span { low: 1, high: 4 }
 }
 
 // The span of the links of node 1.
@@ -62,14 +65,8 @@ pub fn middle_span(features: usize, nodes: usize, links0: usize) -> Span
     if nodes != 3 {
         return Span { low: 0, high: 0 };
     }
-    if links0 == 4 {
-        return Span {
-            low: 0,
-            high: link_sets(features),
-        };
-    }
     Span {
-        low: 1,
+        low: if links0 == 4 { 0 } else { 1 },
         high: link_sets(features),
     }
 }
@@ -78,24 +75,8 @@ pub fn middle_span(features: usize, nodes: usize, links0: usize) -> Span
 pub fn last_span(nodes: usize, links0: usize, links1: usize) -> Span
     ensures { Ends result (last_span nodes links0 links1) }
 {
-    if nodes != 3 {
-        return Span { low: 0, high: 0 };
-    }
-    if links0 != 4 {
-        return Span { low: 0, high: 0 };
-    }
-    if links1 != 0 {
+    if nodes != 3 || links0 != 4 || links1 != 0 {
         return Span { low: 0, high: 0 };
     }
     Span { low: 0, high: 3 }
-}
-
-// Whether a number is within a span.
-pub fn is_within(s: Span, x: usize) -> bool
-    ensures { (result ≡ true) ↔ ((s.low ≤ x) × (x ≤ s.high)) }
-{
-    if x < s.low {
-        return false;
-    }
-    x <= s.high
 }

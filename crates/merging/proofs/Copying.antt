@@ -1,5 +1,5 @@
 -- The loops that copy: the words and spans of the two graphs, and the rows of classes.
-use Rattle.std.proofs.Common.{◌≡◌, ℕ, ◌+◌, ◌-◌, ◌%◌, ◌<◌, ◌≤◌, List, length, get_or, set, sym, refl, ap, ◌∙◌, subst, arith, length-set}
+use Rattle.std.proofs.Common.{◌≡◌, ℕ, ◌+◌, ◌-◌, ◌%◌, ◌<◌, ◌≤◌, List, length, get_or, set, sym, refl, ap, ◌∙◌, subst, arith, length-set, take, drop, get_or-take, get_or-drop, length-take-le, length-drop}
 use native.Mathlib.Decide.{dec_lt}
 use Rattle.layout.specs.Layout.{header, row_from, row_end}
 use Rattle.classes.proofs.Roots.{stored, unstored}
@@ -9,33 +9,37 @@ use Rattle.merging.specs.Rows.{WordsCopied, SpansCopied, RowCopied, class_word}
 pub stored_at : (l : List ℕ) (i a k : ℕ) → i < length l → k ≡ i → get_or (set l i a) k 0 ≡ a
 stored_at l i a k h e = ap (λ (n : ℕ). get_or (set l i a) n 0) e ∙ stored l i a h
 
-pub words-start : (ws : List ℕ) (at shift : ℕ) (pool : List ℕ) → WordsCopied ws (row_from ws 0) at shift pool pool at
-words-start ws at shift pool =
-    record { long = refl; kept = λ k h. refl; counted = refl; words_are = λ i h. absurd (omega arith) }
+-- The words from `start` to `end`, and their number.
+pub part-word : (ws : List ℕ) (start end i : ℕ) → i < end - start → get_or (take (end - start) (drop start ws)) i 0 ≡ get_or ws (start + i) 0
+part-word ws start end i h = get_or-take (end - start) (drop start ws) i 0 h ∙ get_or-drop start ws i 0
 
-pub words_step : {ws : List ℕ} {k at shift : ℕ} {pool pool' : List ℕ} {next : ℕ} → row_from ws 0 ≤ k →
-    WordsCopied ws k at shift pool pool' next → next < length pool →
-    WordsCopied ws (k + 1) at shift pool (set pool' next ((get_or ws k 0 + shift) % 65536)) (next + 1)
-words_step {ws} {k} {at} {shift} {pool} {pool'} {next} low s room =
+pub part-long : (ws : List ℕ) (start end : ℕ) → end ≤ length ws → length (take (end - start) (drop start ws)) ≡ end - start
+part-long ws start end h = length-take-le (end - start) (drop start ws) (omega (arith, length-drop start ws))
+
+pub words_step : {ws : List ℕ} {at shift : ℕ} {pool pool' : List ℕ} {next : ℕ} → (i : ℕ) →
+    WordsCopied ws (row_from ws 0 + i) at shift pool pool' next → next < length pool → {w : ℕ} →
+    w ≡ (get_or ws (row_from ws 0 + i) 0 + shift) % 65536 →
+    WordsCopied ws (row_from ws 0 + (i + 1)) at shift pool (set pool' next w) (next + 1)
+words_step {ws} {at} {shift} {pool} {pool'} {next} i s room {w} word =
     record {
-      long = length-set pool' next ((get_or ws k 0 + shift) % 65536) ∙ s.long;
-      kept = λ j h. unstored pool' next ((get_or ws k 0 + shift) % 65536) j (λ e. omega (arith, s.counted)) ∙ s.kept j h;
+      long = length-set pool' next w ∙ s.long;
+      kept = λ j h. unstored pool' next w j (λ e. omega (arith, s.counted)) ∙ s.kept j h;
       counted = omega (arith, s.counted);
-      words_are = λ i h. words_are i h (dec_lt (row_from ws 0 + i) k);
+      words_are = λ j h. words_are j h (dec_lt j i);
     }
   where
-    words_are : (i : ℕ) → row_from ws 0 + i < k + 1 → Dec (row_from ws 0 + i < k) →
-        get_or (set pool' next ((get_or ws k 0 + shift) % 65536)) (at + i) 0 ≡ (get_or ws (row_from ws 0 + i) 0 + shift) % 65536
-    words_are i h (yes l) = unstored pool' next ((get_or ws k 0 + shift) % 65536) (at + i) (λ e. omega (arith, s.counted)) ∙ s.words_are i l
-    words_are i h (no n) =
-        let e : k ≡ row_from ws 0 + i = omega arith in
-        stored_at pool' next ((get_or ws k 0 + shift) % 65536) (at + i) (omega (arith, s.long)) (omega (arith, s.counted)) ∙
-        ap (λ (j : ℕ). (get_or ws j 0 + shift) % 65536) e
+    words_are : (j : ℕ) → row_from ws 0 + j < row_from ws 0 + (i + 1) → Dec (j < i) →
+        get_or (set pool' next w) (at + j) 0 ≡ (get_or ws (row_from ws 0 + j) 0 + shift) % 65536
+    words_are j h (yes l) = unstored pool' next w (at + j) (λ e. omega (arith, s.counted)) ∙ s.words_are j (omega arith)
+    words_are j h (no n) =
+        let e : i ≡ j = omega arith in
+        stored_at pool' next w (at + j) (omega (arith, s.long)) (omega (arith, s.counted)) ∙ word ∙
+        ap (λ (k : ℕ). (get_or ws (row_from ws 0 + k) 0 + shift) % 65536) e
 
-pub words-done : {ws : List ℕ} {k end at shift : ℕ} {pool pool' : List ℕ} {next : ℕ} → WordsCopied ws k at shift pool pool' next →
-    k ≤ end → end ≤ k → WordsCopied ws end at shift pool pool' next
-words-done {ws} {k} {end} {at} {shift} {pool} {pool'} {next} s low high =
-    let e : k ≡ end = omega arith in
+pub words-done : {ws : List ℕ} {end at shift : ℕ} {pool pool' : List ℕ} {next : ℕ} → (i : ℕ) →
+    WordsCopied ws (row_from ws 0 + i) at shift pool pool' next → row_from ws 0 + i ≡ end →
+    WordsCopied ws end at shift pool pool' next
+words-done {ws} {end} {at} {shift} {pool} {pool'} {next} i s e =
     subst (λ (n : ℕ). WordsCopied ws n at shift pool pool' next) e s
 
 pub spans-start : (ws : List ℕ) (at shift : ℕ) (start end : List ℕ) → SpansCopied ws 0 at shift start end start end
@@ -89,31 +93,27 @@ spans-done {ws} {v} {nodes} {at} {shift} {start} {end} {start'} {end'} s low hig
     let e : v ≡ nodes = omega arith in
     subst (λ (n : ℕ). SpansCopied ws n at shift start end start' end') e s
 
-pub row-start : (class pool : List ℕ) (start at : ℕ) (graph : List ℕ) → RowCopied class pool start start at graph graph at
-row-start class pool start at graph =
-    record { long = refl; kept = λ k h. refl; counted = refl; words_are = λ i h. absurd (omega arith) }
-
-pub row_step : {class pool : List ℕ} {start k at : ℕ} {graph graph' : List ℕ} {next : ℕ} → start ≤ k →
-    RowCopied class pool start k at graph graph' next → next < length graph → {w : ℕ} → w ≡ class_word class (get_or pool k 0) →
-    RowCopied class pool start (k + 1) at graph (set graph' next w) (next + 1)
-row_step {class} {pool} {start} {k} {at} {graph} {graph'} {next} low s room {w} word =
+pub row_step : {class pool : List ℕ} {start at : ℕ} {graph graph' : List ℕ} {next : ℕ} → (i : ℕ) →
+    RowCopied class pool start (start + i) at graph graph' next → next < length graph → {w : ℕ} →
+    w ≡ class_word class (get_or pool (start + i) 0) →
+    RowCopied class pool start (start + (i + 1)) at graph (set graph' next w) (next + 1)
+row_step {class} {pool} {start} {at} {graph} {graph'} {next} i s room {w} word =
     record {
       long = length-set graph' next w ∙ s.long;
       kept = λ j h. unstored graph' next w j (λ e. omega (arith, s.counted)) ∙ s.kept j h;
       counted = omega (arith, s.counted);
-      words_are = λ i h. words_are i h (dec_lt (start + i) k);
+      words_are = λ j h. words_are j h (dec_lt j i);
     }
   where
-    words_are : (i : ℕ) → start + i < k + 1 → Dec (start + i < k) →
-        get_or (set graph' next w) (at + i) 0 ≡ class_word class (get_or pool (start + i) 0)
-    words_are i h (yes l) = unstored graph' next w (at + i) (λ e. omega (arith, s.counted)) ∙ s.words_are i l
-    words_are i h (no n) =
-        let e : k ≡ start + i = omega arith in
-        stored_at graph' next w (at + i) (omega (arith, s.long)) (omega (arith, s.counted)) ∙ word ∙
-        ap (λ (j : ℕ). class_word class (get_or pool j 0)) e
+    words_are : (j : ℕ) → start + j < start + (i + 1) → Dec (j < i) →
+        get_or (set graph' next w) (at + j) 0 ≡ class_word class (get_or pool (start + j) 0)
+    words_are j h (yes l) = unstored graph' next w (at + j) (λ e. omega (arith, s.counted)) ∙ s.words_are j (omega arith)
+    words_are j h (no n) =
+        let e : i ≡ j = omega arith in
+        stored_at graph' next w (at + j) (omega (arith, s.long)) (omega (arith, s.counted)) ∙ word ∙
+        ap (λ (k : ℕ). class_word class (get_or pool (start + k) 0)) e
 
-pub row_done : {class pool : List ℕ} {start k end at : ℕ} {graph graph' : List ℕ} {next : ℕ} →
-    RowCopied class pool start k at graph graph' next → k ≤ end → end ≤ k → RowCopied class pool start end at graph graph' next
-row_done {class} {pool} {start} {k} {end} {at} {graph} {graph'} {next} s low high =
-    let e : k ≡ end = omega arith in
+pub row_done : {class pool : List ℕ} {start end at : ℕ} {graph graph' : List ℕ} {next : ℕ} → (i : ℕ) →
+    RowCopied class pool start (start + i) at graph graph' next → start + i ≡ end → RowCopied class pool start end at graph graph' next
+row_done {class} {pool} {start} {end} {at} {graph} {graph'} {next} i s e =
     subst (λ (n : ℕ). RowCopied class pool start n at graph graph' next) e s

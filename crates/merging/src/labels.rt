@@ -32,8 +32,8 @@ fn meet<'a>(
 {
     Label {
         kind: bounds::sets::meet(n, sets, cells, a.kind as usize, b.kind as usize),
-        lowest: layout::greater(a.lowest, b.lowest),
-        highest: layout::lesser(a.highest, b.highest),
+        lowest: a.lowest.max(b.lowest),
+        highest: a.highest.min(b.highest),
     }
 }
 
@@ -56,9 +56,7 @@ fn lower<'a>(
     ensures below { Below n labels.new }
     ensures lowers { Lowers (meet_in n sets.now cells.now) graph.now class.now shift labels.old labels.new }
 {
-    let mut v = graph[0] as usize;
-    while 0 < v {
-        v -= 1;
+    for v in (0..graph[0] as usize).rev() {
         let c = class[shift + v] as usize;
         let lower = meet(
             n,
@@ -77,15 +75,14 @@ fn clear(n: usize, nodes: usize, labels: &mut [u16; LABELS])
     ensures labels_len { (length labels.new ≡ label_words) × Below n labels.new }
     ensures by_index { (c : ℕ) → c < nodes → label_of_class labels.new c ≡ plain (n - 1) }
 {
-    let mut c = 0;
-    while c < nodes {
-        let top = Label {
-            kind: (n - 1) as u8,
-            lowest: 0,
-            highest: 255,
-        };
+    let top = Label {
+        kind: (n - 1) as u8,
+        lowest: 0,
+        highest: 255,
+    };
+    // By number: a label is two words of the array, and of `chunks_exact_mut` a proof learns no word that it wrote.
+    for c in 0..nodes {
         layout::put_label(labels, HEADER * c, top);
-        c += 1;
     }
 }
 
@@ -127,12 +124,10 @@ pub fn has_clash(graph: &[u16]) -> bool
     ensures { result ≡ any_of (from 0 (size graph.now)) (λ x. contradicts (label_at graph.now x)) }
 {
     let nodes = graph[0] as usize;
-    let mut x = 0;
-    while x < nodes {
+    for x in 0..nodes {
         if is_contradiction(layout::label_at(graph, x)) {
             return true;
         }
-        x += 1;
     }
     false
 }

@@ -4,6 +4,8 @@ ghost use Rattle.std.specs.Prelude.{◌≡◌, ◌+◌, ◌≤◌, length};
 ghost use Rattle.layout.specs.Layout.{Recorded, size, rows_end};
 ghost use Rattle.merging.specs.Rows.{SpansCopied, WordsCopied, links_both, words_in};
 
+use classes::rows::Spans;
+
 // The number of words of a graph's rows.
 fn word_count(graph: &[u16]) -> usize
     requires { Recorded graph.now }
@@ -30,38 +32,29 @@ pub fn copy_words<'a>(graph: &'a [u16], at: usize, shift: usize, pool: &mut [u16
     ensures { WordsCopied graph.now (rows_end graph.now) at shift pool.old pool.new result }
 {
     let nodes = graph[0] as usize;
+    let first = graph[1] as usize;
     let end = graph[nodes + 1] as usize;
     let moved = shift as u16;
-    let mut k = graph[1] as usize;
     let mut next = at;
-    while k < end {
-        pool[next] = std::num::wrapping_add_u16(graph[k], moved);
-        k += 1;
+    for &word in &graph[first..end] {
+        pool[next] = word.wrapping_add(moved);
         next += 1;
     }
     next
 }
 
 // Gives the nodes of a graph, whose numbers are moved by `shift`, their spans of links among the words copied to the places from `at` on.
-pub fn copy_spans<'a>(
-    graph: &'a [u16],
-    at: usize,
-    shift: usize,
-    start: &mut [u16; 510],
-    end: &mut [u16; 510],
-)
+pub fn copy_spans<'a>(graph: &'a [u16], at: usize, shift: usize, spans: &mut Spans)
     requires recorded { Recorded graph.now }
-    requires at_bound { (at ≤ 2558) × (shift ≤ 255) × (length start.old ≡ 510) × (length end.old ≡ 510) }
-    ensures { SpansCopied graph.now (size graph.now) at shift start.old end.old start.new end.new }
+    requires at_bound { (at ≤ 2558) × (shift ≤ 255) × (length spans.old.start ≡ 510) × (length spans.old.end ≡ 510) }
+    ensures { SpansCopied graph.now (size graph.now) at shift spans.old.start spans.old.end spans.new.start spans.new.end }
 {
     let nodes = graph[0] as usize;
     let first = graph[1] as usize;
-    let mut v = 0;
-    while v < nodes {
+    for v in 0..nodes {
         let row = graph[v + 1] as usize - first + at;
         let next = graph[v + 2] as usize - first + at;
-        start[shift + v] = (row + layout::HEADER) as u16;
-        end[shift + v] = next as u16;
-        v += 1;
+        spans.start[shift + v] = (row + layout::HEADER) as u16;
+        spans.end[shift + v] = next as u16;
     }
 }

@@ -6,7 +6,8 @@ ghost use Rattle.merging.specs.Lowered.{Below, label_words};
 ghost use Rattle.merging.specs.Rows.{ClassGraph, Fillable, RowCopied, end_of_row};
 
 use crate::labels::LABELS;
-use layout::{HEADER, SCALE};
+use classes::rows::Spans;
+use layout::HEADER;
 
 // Copies a row to the places from `at` on, with each target replaced by its class. Answers the next place.
 fn copy_row<'a>(
@@ -21,34 +22,25 @@ fn copy_row<'a>(
     requires by_index { (k : ℕ) → start ≤ k → k < end → (target_at pool.now k < 510) × (slice_index class.now (target_at pool.now k) < 510) }
     ensures { RowCopied class.now pool.now start end at graph.old graph.new result }
 {
-    let mut k = start;
     let mut next = at;
-    while k < end {
-        let w = pool[k];
-        let t = (w % SCALE) as usize;
-        graph[next] = layout::link(w / SCALE, class[t]);
+    for &word in &pool[start..end] {
+        graph[next] = layout::link(layout::feature(word), class[layout::target(word)]);
         next += 1;
-        k += 1;
     }
     next
 }
 
 // The end of a node's row; its start, where the node represents no class.
-fn end_of_row<'a>(
-    class: &'a [u16; 510],
-    start: &'a [u16; 510],
-    end: &'a [u16; 510],
-    x: usize,
-) -> usize
+fn end_of_row<'a>(class: &'a [u16; 510], spans: &'a Spans, x: usize) -> usize
     requires x_bound { (x < 510) × (slice_index class.now x < 510) }
-    requires x_bound_2 { (slice_index start.now x ≤ slice_index end.now x) × (slice_index end.now x ≤ 37692) }
-    ensures { result ≡ end_of_row class.now start.now end.now x }
+    requires x_bound_2 { (slice_index spans.now.start x ≤ slice_index spans.now.end x) × (slice_index spans.now.end x ≤ 37692) }
+    ensures { result ≡ end_of_row class.now spans.now.start spans.now.end x }
 {
     let c = class[x] as usize;
     if c == x {
-        return end[x] as usize;
+        return spans.end[x] as usize;
     }
-    start[x] as usize
+    spans.start[x] as usize
 }
 
 // Builds the graph of the classes.
@@ -56,26 +48,23 @@ pub fn quotient<'a>(
     nodes: usize,
     class: &'a [u16; 510],
     labels: &'a [u16; LABELS],
-    start: &'a [u16; 510],
-    end: &'a [u16; 510],
+    spans: &'a Spans,
     pool: &'a [u16],
     graph: &mut [u16],
 )
     requires graph_len_bound { (length graph.old ≤ 65535) × (length labels.now ≡ label_words) × Below 128 labels.now }
-    requires fillable { Fillable nodes class.now start.now end.now pool.now (length graph.old) }
-    ensures { ClassGraph nodes class.now labels.now start.now end.now pool.now graph.new }
+    requires fillable { Fillable nodes class.now spans.now.start spans.now.end pool.now (length graph.old) }
+    ensures { ClassGraph nodes class.now labels.now spans.now.start spans.now.end pool.now graph.new }
 {
     let mut at = nodes + 2;
     graph[0] = nodes as u16;
     graph[1] = at as u16;
-    let mut x = 0;
-    while x < nodes {
+    for x in 0..nodes {
         let c = class[x] as usize;
         layout::put_label(graph, at, layout::label_from(labels, HEADER * c));
-        let row_start = start[x] as usize;
-        let row_end = end_of_row(class, start, end, x);
+        let row_start = spans.start[x] as usize;
+        let row_end = end_of_row(class, spans, x);
         at = copy_row(class, pool, row_start, row_end, at + HEADER, graph);
         graph[x + 2] = at as u16;
-        x += 1;
     }
 }

@@ -24,6 +24,7 @@ use Rattle.layout.proofs.Rows.{length-rows}
 use Rattle.layout.proofs.Places.{label-at, link-known}
 use Rattle.layout.proofs.Reaching.{reached-inside}
 use Rattle.layout.proofs.Builder.{length-put, label-put, put-before, Aimed, Orderly, built-begin, built-kept, built-shaped, built-sound, closed-rows, label_same, links-put, row_closes, rows-kept, same-before, same-trans, size_is, size-kept, size-rows}
+use Rattle.std.specs.Prelude.{Some}
 use Rattle.visits.specs.Walks.{Numbers}
 use Rattle.encoder.specs.NumberedRows.{degree, degrees, number_byte, numbered_row, numbered_rows}
 use Rattle.encoder.proofs.RowBytes.{map_snoc}
@@ -321,13 +322,13 @@ module _ {form : Canonical Label} {new : List ℕ} where
       same : (rows : List (Row Label)) → ◌≡◌ {A = Canonical Label} (written (rows_of new)) (written rows) → rows_of new ≡ rows
       same rows q = cc
 
-module _ {ws : List ℕ} (sound : Sound ws) {count : ℕ} {numbers visited : List ℕ} (numbered : Numbers ws count numbers visited)
-    (all : length visited ≡ 255) (few : count ≤ 255) {links : ℕ} (sum : links ≡ degrees ws (take count visited)) (fits : links ≤ 2048) where
+module _ {ws : List ℕ} (sound : Sound ws) {count : ℕ} {numbers visited : List ℕ} (numbered : Numbers ws (Some count) numbers visited)
+    (all : length visited ≡ 255) {links : ℕ} (sum : links ≡ degrees ws (take count visited)) (fits : links ≤ 2048) where
   pub visited-numbered : Closed ws numbers visited count
   visited-numbered =
       record {
-        nodes = visited-nodes sound numbered all few;
-        low = visited-closed sound numbered all few;
+        nodes = visited-nodes sound numbered all;
+        low = visited-closed sound numbered all;
         links = omega arith;
       }
 
@@ -335,6 +336,6 @@ module _ {ws : List ℕ} (sound : Sound ws) {count : ℕ} {numbers visited : Lis
   pub renumbered : {new : List ℕ} → RowsCopied ws numbers visited count new → Renumbers (canonical eqb (graph_in ws)) true new
   renumbered {new} r =
       let form : canonical eqb (graph_in ws) ≡ written (rows_of new) =
-      written-rows sound numbered all few (omega arith) ∙ ap (λ (rows : List (Row Label)). written rows) (sym r.rows) in
+      written-rows sound numbered all (omega arith) ∙ ap (λ (rows : List (Row Label)). written rows) (sym r.rows) in
       let held = built-form sound form (subst (λ (n : ℕ). Built new (count + 2) n r.end) (sym r.sized) r.built) refl in
       renumbers-rows form held.0 held.1

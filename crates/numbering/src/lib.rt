@@ -22,19 +22,13 @@ fn copy_row<'a>(
     requires v_bound { (at + header + degree graph.now v ≤ longest) × (at + header + degree graph.now v ≤ length new.old) }
     ensures { RowCopied graph.now numbers.now v new.old at new.new result }
 {
-    let row = graph[v + 1] as usize;
-    let end = graph[v + 2] as usize;
-    let label = layout::label_at(graph, v);
-    layout::put_label(new, at, label);
+    layout::put_label(new, at, layout::label_at(graph, v));
     let mut next = at + layout::HEADER;
-    let mut k = row + layout::HEADER;
-    while k < end {
-        let w = graph[k];
-        let target = w % layout::SCALE;
-        let number = numbers[target as usize];
-        new[next] = layout::link(w / layout::SCALE, number);
+    for &link in layout::links(graph, v) {
+        let target = layout::target(link);
+        let number = numbers[target];
+        new[next] = layout::link(layout::feature(link), number);
         next += 1;
-        k += 1;
     }
     next
 }
@@ -53,12 +47,9 @@ fn copy_rows<'a>(
 {
     let mut at = count + 2;
     new[1] = at as u16;
-    let mut i = 0;
-    while i < count {
-        let v = visited[i] as usize;
-        at = copy_row(graph, numbers, v, at, new);
+    for (i, &v) in visited[..count].iter().enumerate() {
+        at = copy_row(graph, numbers, v as usize, at, new);
         new[i + 2] = at as u16;
-        i += 1;
     }
     new[0] = count as u16;
 }
@@ -72,10 +63,9 @@ pub fn renumber(graph: &[u16], new: &mut [u16]) -> bool
 {
     let mut numbers = [0u16; 510];
     let mut visited = [0u16; 255];
-    let count = visits::numbering::number(graph, &mut numbers, &mut visited);
-    if 255 < count {
+    let Some(count) = visits::numbering::number(graph, &mut numbers, &mut visited) else {
         return false;
-    }
+    };
     let extent = encoder::extent_of(graph, &visited, count);
     if 2048 < extent.links {
         return false;

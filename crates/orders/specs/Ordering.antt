@@ -3,8 +3,7 @@ use Rattle.std.specs.Prelude.{Bool, true, false, List, ℕ}
 use Rattle.graphs.specs.Rows.{Row}
 use Rattle.lattice.specs.Label.{Label}
 use Rattle.subsume.specs.Promise.{rows_below}
-use Rattle.replies.specs.declared.Reply.{Reply}
-use Rattle.replies.specs.declared.Reply.TheVariants.{Same, Under, Above, Neither}
+use Rattle.replies.specs.Replies.{Reply, Same, Under, Above, Neither}
 
 -- "one of four: same, under, above, neither, seen from the first graph". The first truth value says whether the first graph is below the second,
 -- and the other says whether the second graph is below the first.

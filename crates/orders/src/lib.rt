@@ -10,12 +10,9 @@ ghost use Rattle.decode.specs.Answers.{Roomy};
 ghost use Rattle.record.specs.Read.{reading};
 ghost use Rattle.record.specs.Reads.{Loaded};
 ghost use Rattle.pairs.specs.Pair.{read_both};
-ghost use Rattle.subsume.specs.Promise.{is_below};
 ghost use Rattle.orders.specs.Ordering.{compared, ordered};
 
-use pairs::PairVerdict;
-use replies::Reply;
-use subsume::Order;
+use replies::{Reply, Success};
 
 // The order of two records over an accepted table with n types.
 pub fn of_records(n: usize, table: &[u8], first: &[u8], second: &[u8]) -> Reply
@@ -44,11 +41,8 @@ fn order_in(
     requires { (n ≤ 64) × Roomy first.now s.old × Roomy second.now g.old }
     ensures { result ≡ read_both (λ q. q) (reading n first.now) (reading n second.now) (ordered n table.now) }
 {
-    let verdict = pairs::read_both(n, table, &table[..0], first, second, s, g);
-    match verdict {
-        PairVerdict::Refused(fault, side) => Reply::Graph(fault, side),
-        PairVerdict::Both => of_graphs(table, s, g),
-    }
+    pairs::read_both(n, table, &[], first, second, s, g)?;
+    of_graphs(table, s, g)
 }
 
 // The order of two graphs in words.
@@ -56,25 +50,19 @@ pub fn of_graphs<'a>(table: &'a [u8], s: &'a [u16], g: &'a [u16]) -> Reply
     requires { (n : ℕ) × ((n ≤ 64) × (Loaded n s.now × Loaded n g.now)) }
     ensures { (n : ℕ) → Loaded n s.now → Loaded n g.now → result ≡ ordered n table.now (rows_of s.now) (rows_of g.now) }
 {
-    let lower = subsume::subsume(table, s, g);
-    let upper = subsume::subsume(table, g, s);
-    let below = lower.order;
-    let above = upper.order;
+    let below = subsume::subsume(table, s, g).is_some();
+    let above = subsume::subsume(table, g, s).is_some();
     order_reply(below, above)
 }
 
 // The reply for two graphs, by whether the first is below the second, and whether the second is below the first.
-fn order_reply(below: Order, above: Order) -> Reply
-    ensures { result ≡ compared (is_below below) (is_below above) }
+fn order_reply(below: bool, above: bool) -> Reply
+    ensures { result ≡ compared below above }
 {
-    match below {
-        Order::Below => match above {
-            Order::Below => Reply::Same,
-            Order::NotBelow => Reply::Under,
-        },
-        Order::NotBelow => match above {
-            Order::Below => Reply::Above,
-            Order::NotBelow => Reply::Neither,
-        },
+    match (below, above) {
+        (true, true) => Ok(Success::Same),
+        (true, false) => Ok(Success::Under),
+        (false, true) => Ok(Success::Above),
+        (false, false) => Ok(Success::Neither),
     }
 }

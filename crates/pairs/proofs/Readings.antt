@@ -8,26 +8,23 @@ use native.Mathlib.Omega.{arith}
 use borrow.Author.Tests.{eq-eqb, ne_eqb}
 use lib.Dec.{eqb}
 use lib.ListN.{length}
+use Rattle.std.specs.Prelude.{Ok, Err}
 use Rattle.graphs.specs.Rows.{Row}
 use Rattle.graphs.proofs.Search.{true-false}
 use Rattle.lattice.specs.Label.{Label}
 use Rattle.layout.specs.Layout.{rows_of}
 use Rattle.record.specs.declared.GraphFault.{GraphFault}
-use Rattle.record.specs.declared.reading.Verdict.{Verdict}
-use Rattle.record.specs.declared.reading.Verdict.TheVariants.{Accepted, Refused}
 use Rattle.record.specs.Read.{Reading, refused, accepted, reading}
-use Rattle.record.specs.Reads.{Holds, Loaded, ReadsAs, verdict_of}
+use Rattle.record.specs.Reads.{Holds, Loaded, ReadsAs, Verdict, verdict_of}
 use Rattle.record.specs.Appropriate.{list_accepted, reading_appropriate}
 use Rattle.record.proofs.Accepted.{Rules, accepted-rules}
 use Rattle.record.proofs.Rewritten.{rules-read}
 use Rattle.record.proofs.Allowed.{accepted-appropriate, list-long}
-use Rattle.replies.specs.declared.Side.{Side}
 use Rattle.replies.specs.declared.Side.TheVariants.{First, Second}
-use Rattle.replies.specs.declared.Reply.{Reply}
-use Rattle.replies.specs.declared.Reply.TheVariants.{Graph}
-use Rattle.pairs.specs.declared.PairVerdict.{PairVerdict}
-use Rattle.pairs.specs.declared.PairVerdict.TheVariants as pair
-use Rattle.pairs.specs.Pair.{Optional, ReadsBoth, ReadsBeside, read_both, reading_beside, joint_verdict}
+use Rattle.replies.specs.declared.Refusal.{Refusal}
+use Rattle.replies.specs.declared.Refusal.TheVariants as refusal
+use Rattle.replies.specs.Replies.{Reply}
+use Rattle.pairs.specs.Pair.{Optional, PairVerdict, ReadsBoth, ReadsBeside, read_both, reading_beside, joint_verdict}
 
 -- Reading with a list or without one.
 
@@ -84,13 +81,13 @@ told-loaded n t list bytes {ws} told =
 -- One record.
 
 module _ {n : ℕ} {ws : List ℕ} {v : Verdict} where
-  pub told-refused : {o : Reading} → ReadsAs n o v ws → (fault : GraphFault) → v ≡ Refused fault → o ≡ refused fault
+  pub told-refused : {o : Reading} → ReadsAs n o v ws → (fault : GraphFault) → v ≡ Err fault → o ≡ refused fault
   told-refused {o = refused other} tells fault e =
       let same : other ≡ fault = cc (tells.verdict, e) in
       ap refused same
   told-refused {o = accepted rows} tells fault e = let z : ◌≡◌ {A = ℕ} 0 1 = cc (tells.verdict, e) in absurd (omega arith)
 
-  pub told-accepted : {o : Reading} → ReadsAs n o v ws → v ≡ Accepted → Told n o ws
+  pub told-accepted : {o : Reading} → ReadsAs n o v ws → v ≡ Ok tt → Told n o ws
   told-accepted {o = refused fault} tells e = let z : ◌≡◌ {A = ℕ} 0 1 = cc tells.verdict in absurd (omega arith)
   told-accepted {o = accepted rows} tells e = told-held refl (tells.graph rows refl)
 
@@ -100,7 +97,7 @@ module _ {n : ℕ} {o p : Reading} {v : PairVerdict} {ws ws₂ : List ℕ} (read
   joint : {w : PairVerdict} {i j : Reading} → v ≡ w → o ≡ i → p ≡ j → joint_verdict (verdict_of i) (verdict_of j) ≡ w
   joint e d c = sym (reads.verdict ∙ ap₂ (λ (i j : Reading). joint_verdict (verdict_of i) (verdict_of j)) d c) ∙ e
 
-  pub both_told : v ≡ pair.Both → Told n o ws × Told n p ws₂
+  pub both_told : v ≡ Ok tt → Told n o ws × Told n p ws₂
   both_told e = go o p refl refl
     where
       go : (i j : Reading) → o ≡ i → p ≡ j → Told n o ws × Told n p ws₂
@@ -110,31 +107,29 @@ module _ {n : ℕ} {o p : Reading} {v : PairVerdict} {ws ws₂ : List ℕ} (read
 
   module _ {X : Type 0} (refuse : Reply → X) (next : List (Row Label) → List (Row Label) → X) where
     -- A refusal, and which graph is refused.
-    pub both-refused : (fault : GraphFault) (side : Side) → v ≡ pair.Refused fault side → read_both refuse o p next ≡ refuse (Graph fault side)
-    both-refused fault side e = go o p refl refl
+    pub both-refused : (why : Refusal) → v ≡ Err why → read_both refuse o p next ≡ refuse (Err why)
+    both-refused why e = go o p refl refl
       where
-        same : {other : GraphFault} {which : Side} → ◌≡◌ {A = PairVerdict} (pair.Refused other which) (pair.Refused fault side) →
-            refuse (Graph other which) ≡ refuse (Graph fault side)
-        same {other} {which} q =
-            let f : other ≡ fault = cc in
-            let s : which ≡ side = cc in
-            ap₂ (λ x y. refuse (Graph x y)) f s
+        same : {other : Refusal} → ◌≡◌ {A = PairVerdict} (Err other) (Err why) → refuse (Err other) ≡ refuse (Err why)
+        same {other} q =
+            let r : other ≡ why = cc q in
+            ap (λ (x : Refusal). refuse (Err x)) r
 
-        go : (i j : Reading) → o ≡ i → p ≡ j → read_both refuse i j next ≡ refuse (Graph fault side)
+        go : (i j : Reading) → o ≡ i → p ≡ j → read_both refuse i j next ≡ refuse (Err why)
         go (refused other) j d c = same (joint e d c)
         go (accepted rows) (refused other) d c = same (joint e d c)
         go (accepted rows) (accepted others) d c = let z : ◌≡◌ {A = ℕ} 0 1 = cc (joint e d c) in absurd (omega arith)
 
     -- Where both are accepted, the call goes on with the rows that the words hold.
-    pub both-next : v ≡ pair.Both → read_both refuse o p next ≡ next (rows_of ws) (rows_of ws₂)
+    pub both-next : v ≡ Ok tt → read_both refuse o p next ≡ next (rows_of ws) (rows_of ws₂)
     both-next e =
         let (one, other) = both_told e in
         ap₂ (λ (i j : Reading). read_both refuse i j next) one.is other.is
 
 -- What reading one record after the other gives.
 module _ {n : ℕ} {o : Reading} {v : Verdict} {ws : List ℕ} (one : ReadsAs n o v ws) where
-  pub reads-first-refused : {p : Reading} {ws₂ : List ℕ} {fault : GraphFault} → v ≡ Refused fault →
-      ReadsBoth n o p (pair.Refused fault First) ws ws₂
+  pub reads-first-refused : {p : Reading} {ws₂ : List ℕ} {fault : GraphFault} → v ≡ Err fault →
+      ReadsBoth n o p (Err (refusal.Graph fault First)) ws ws₂
   reads-first-refused {p} e =
       record {
         verdict = ap (λ (w : Verdict). joint_verdict w (verdict_of p)) (sym e ∙ one.verdict);
@@ -142,8 +137,8 @@ module _ {n : ℕ} {o : Reading} {v : Verdict} {ws : List ℕ} (one : ReadsAs n 
         other = λ q. let z : ◌≡◌ {A = ℕ} 0 1 = cc q in absurd (omega arith);
       }
 
-  module _ (passes : v ≡ Accepted) {p : Reading} {w : Verdict} {ws₂ : List ℕ} (two : ReadsAs n p w ws₂) where
-    reads_second : ReadsBoth n o p (joint_verdict Accepted w) ws ws₂
+  module _ (passes : v ≡ Ok tt) {p : Reading} {w : Verdict} {ws₂ : List ℕ} (two : ReadsAs n p w ws₂) where
+    reads_second : ReadsBoth n o p (joint_verdict (Ok tt) w) ws ws₂
     reads_second =
         record {
           verdict = ap₂ joint_verdict (sym passes ∙ one.verdict) two.verdict;
@@ -151,14 +146,14 @@ module _ {n : ℕ} {o : Reading} {v : Verdict} {ws : List ℕ} (one : ReadsAs n 
           other = λ _. two.graph;
         }
 
-    pub reads-second-refused : {fault : GraphFault} → w ≡ Refused fault → ReadsBoth n o p (pair.Refused fault Second) ws ws₂
-    reads-second-refused e = subst (λ (u : Verdict). ReadsBoth n o p (joint_verdict Accepted u) ws ws₂) e reads_second
+    pub reads-second-refused : {fault : GraphFault} → w ≡ Err fault → ReadsBoth n o p (Err (refusal.Graph fault Second)) ws ws₂
+    reads-second-refused e = subst (λ (u : Verdict). ReadsBoth n o p (joint_verdict (Ok tt) u) ws ws₂) e reads_second
 
-    pub reads-accepted : w ≡ Accepted → ReadsBoth n o p pair.Both ws ws₂
-    reads-accepted e = subst (λ (u : Verdict). ReadsBoth n o p (joint_verdict Accepted u) ws ws₂) e reads_second
+    pub reads-accepted : w ≡ Ok tt → ReadsBoth n o p (Ok tt) ws ws₂
+    reads-accepted e = subst (λ (u : Verdict). ReadsBoth n o p (joint_verdict (Ok tt) u) ws ws₂) e reads_second
 
 -- The words of both accepted records are `Loaded`.
-pub both-loaded : (n : ℕ) (t list a b : List ℕ) {v : PairVerdict} {ws ws₂ : List ℕ} → ReadsBeside n t list a b v ws ws₂ → v ≡ pair.Both →
+pub both-loaded : (n : ℕ) (t list a b : List ℕ) {v : PairVerdict} {ws ws₂ : List ℕ} → ReadsBeside n t list a b v ws ws₂ → v ≡ Ok tt →
     Loaded n ws × Loaded n ws₂
 both-loaded n t list a b reads e = let (one, other) = both_told reads e in (told-loaded n t list a one, told-loaded n t list b other)
 

@@ -1,18 +1,15 @@
 -- How one record or two are read over an accepted table with n types, with a list of types for features or without one. An empty list stands for
 -- no list.
-use Rattle.std.specs.Prelude.{◌≡◌, true, false, cond, List, ℕ, eqb, length}
+use Rattle.std.specs.Prelude.{◌≡◌, true, false, cond, List, ℕ, ⊤, Result, Ok, Err, eqb, length}
 use Rattle.graphs.specs.Rows.{Row}
 use Rattle.lattice.specs.Label.{Label}
-use Rattle.record.specs.declared.reading.Verdict.{Verdict}
-use Rattle.record.specs.declared.reading.Verdict.TheVariants.{Accepted, Refused}
 use Rattle.record.specs.Read.{Reading, refused, accepted, reading}
 use Rattle.record.specs.Appropriate.{list_accepted, reading_appropriate}
-use Rattle.record.specs.Reads.{Holds, verdict_of}
+use Rattle.record.specs.Reads.{Holds, Verdict, verdict_of}
 use Rattle.replies.specs.declared.Side.TheVariants.{First, Second}
-use Rattle.replies.specs.declared.Reply.{Reply}
-use Rattle.replies.specs.declared.Reply.TheVariants.{Graph}
-use Rattle.pairs.specs.declared.PairVerdict.{PairVerdict}
-use Rattle.pairs.specs.declared.PairVerdict.TheVariants as pair
+use Rattle.replies.specs.declared.Refusal.{Refusal}
+use Rattle.replies.specs.declared.Refusal.TheVariants as refusal
+use Rattle.replies.specs.Replies.{Reply, Graph}
 
 -- The list is empty, which stands for no list, or it is accepted.
 abbrev pub Optional : ℕ → List ℕ → Type 0
@@ -29,17 +26,21 @@ read_both refuse (refused fault) second next = refuse (Graph fault First)
 read_both refuse (accepted rows) (refused fault) next = refuse (Graph fault Second)
 read_both refuse (accepted rows) (accepted others) next = next rows others
 
+-- what the functions that read two records answer: both are accepted, or the first refusal
+abbrev pub PairVerdict : Type 0
+PairVerdict = Result ⊤ Refusal
+
 -- Both verdicts as one, in the order of `read_both`.
 abbrev pub joint_verdict : Verdict → Verdict → PairVerdict
-joint_verdict (Refused fault) second = pair.Refused fault First
-joint_verdict Accepted (Refused fault) = pair.Refused fault Second
-joint_verdict Accepted Accepted = pair.Both
+joint_verdict (Err fault) second = Err (refusal.Graph fault First)
+joint_verdict (Ok _) (Err fault) = Err (refusal.Graph fault Second)
+joint_verdict (Ok _) (Ok _) = Ok tt
 
 -- The verdict is that of both readings. The words hold the first graph where it is accepted, and the second where both are accepted.
 pub record ReadsBoth (n : ℕ) (o p : Reading) (v : PairVerdict) (ws ws₂ : List ℕ) : Type 0 where
   pub verdict : v ≡ joint_verdict (verdict_of o) (verdict_of p)
   pub one : (rows : List (Row Label)) → o ≡ accepted rows → Holds n rows ws
-  pub other : v ≡ pair.Both → (rows : List (Row Label)) → p ≡ accepted rows → Holds n rows ws₂
+  pub other : v ≡ Ok tt → (rows : List (Row Label)) → p ≡ accepted rows → Holds n rows ws₂
 
 -- `ReadsBoth` for two records that are read with a list, or without one.
 abbrev pub ReadsBeside : ℕ → List ℕ → List ℕ → List ℕ → List ℕ → PairVerdict → List ℕ → List ℕ → Type 0

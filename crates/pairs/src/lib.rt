@@ -10,32 +10,27 @@ ghost use Rattle.record.specs.Reads.{ReadsAs};
 ghost use Rattle.pairs.specs.Pair.{Optional, ReadsBeside, reading_beside};
 
 use record::GraphFault;
-use record::reading::Verdict;
-use replies::Side;
-
-// Whether both records are accepted; else the first refusal, and which graph is refused.
-#[derive(Clone, Copy)]
-pub enum PairVerdict {
-    Both,
-    Refused(GraphFault, Side),
-}
+use replies::{Refusal, Side};
 
 // Whether both records are short, so that `layout::SHORT` words have room for the graph of each.
 pub fn are_short(first: &[u8], second: &[u8]) -> bool
     ensures { result ≡ true → (length first.now ≤ 510) × (length second.now ≤ 510) }
 {
-    if decode::rows::SHORT < first.len() {
-        return false;
-    }
-    second.len() <= decode::rows::SHORT
+    first.len() <= decode::rows::SHORT && second.len() <= decode::rows::SHORT
 }
 
 // Reads a record over a table with n types into lent words. On a refusal nothing is said of the words.
-pub fn read_one(n: usize, table: &[u8], list: &[u8], bytes: &[u8], graph: &mut [u16]) -> Verdict
+pub fn read_one(
+    n: usize,
+    table: &[u8],
+    list: &[u8],
+    bytes: &[u8],
+    graph: &mut [u16],
+) -> Result<(), GraphFault>
     requires { (n ≤ 64) × Optional n list.now × Roomy bytes.now graph.old }
     ensures { ReadsAs n (reading_beside n table.now list.now bytes.now) result graph.new }
 {
-    if list.len() == 0 {
+    if list.is_empty() {
         return record::reading::read(n, bytes, graph);
     }
     record::appropriate::read(n, table, list, bytes, graph)
@@ -50,20 +45,16 @@ pub fn read_both(
     second: &[u8],
     a: &mut [u16],
     b: &mut [u16],
-) -> PairVerdict
+) -> Result<(), Refusal>
     requires n_bound { (n ≤ 64) × Optional n list.now }
     requires roomy { Roomy first.now a.old × Roomy second.now b.old }
     ensures { ReadsBeside n table.now list.now first.now second.now result a.new b.new }
 {
-    let one = read_one(n, table, list, first, a);
-    match one {
-        Verdict::Refused(fault) => PairVerdict::Refused(fault, Side::First),
-        Verdict::Accepted => {
-            let other = read_one(n, table, list, second, b);
-            match other {
-                Verdict::Refused(fault) => PairVerdict::Refused(fault, Side::Second),
-                Verdict::Accepted => PairVerdict::Both,
-            }
-        }
+    if let Err(fault) = read_one(n, table, list, first, a) {
+        return Err(Refusal::Graph(fault, Side::First));
     }
+    if let Err(fault) = read_one(n, table, list, second, b) {
+        return Err(Refusal::Graph(fault, Side::Second));
+    }
+    Ok(())
 }

@@ -284,9 +284,6 @@ module _ {ws incoming : List ℕ} {v k : ℕ} (c : Counting ws v incoming k) whe
       }
 
   module _ (more : k < row_end ws v) where
-    pub counting-place : k < length ws
-    counting-place = omega (arith, (c.shaped.node v c.inside).ended)
-
     -- the target is no node
     pub counting-out : size ws ≤ target_at ws k → RowCount ws v false incoming
     counting-out out = record { yes-stands = λ e. true-false e refl; no-stands = λ e all. omega (arith, all k c.low more) }
@@ -538,9 +535,6 @@ pub record Taking (ws : List ℕ) (v : ℕ) (incoming₀ queue₀ : List ℕ) (q
   pub taken : RowTaken ws v k incoming₀ queue₀ queued incoming queue count
 
 module _ {ws incoming queue : List ℕ} {v queued : ℕ} (d : RowDue ws v incoming queue queued) where
-  pub due-listed : v + 2 < length ws
-  due-listed = (d.sound.shaped.node v d.inside).listed
-
   pub row-start : Taking ws v incoming queue queued incoming queue queued (links_from ws v)
   row-start =
       record {
@@ -571,9 +565,6 @@ module _ {ws incoming₀ queue₀ incoming queue : List ℕ} {v queued count k :
 
   abbrev w : ℕ
   w = target_at ws k
-
-  pub row-place : k < length ws
-  row-place = omega (arith, (d.sound.shaped.node v d.inside).ended)
 
   pub row_inside_lem : w < size ws
   row_inside_lem = d.sound.targets v k d.inside p.low more

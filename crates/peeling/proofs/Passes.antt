@@ -11,6 +11,7 @@ use native.Mathlib.Decide.{ℕ_discrete, dec_le}
 use native.Mathlib.Omega.{arith}
 use lib.Dec.{eqb}
 use lib.ListN.{length, get_or}
+use Rattle.std.specs.Prelude.{Ok, Err}
 use Rattle.graphs.specs.Rows.{from}
 use Rattle.graphs.specs.Number.{member}
 use Rattle.graphs.specs.Large.{Distinct}
@@ -19,7 +20,7 @@ use Rattle.graphs.proofs.Search.{true-false}
 use Rattle.layout.specs.Layout.{size, links_from, row_end, Sound}
 use Rattle.visits.specs.Walks.{Leads, Reaches, one, more}
 use Rattle.visits.proofs.Colouring.{whites-bound}
-use Rattle.peeling.specs.declared.Shape.TheVariants.{Cyclic, Apart, Rooted}
+use Rattle.peeling.specs.declared.Unrooted.TheVariants.{Cyclic, Apart}
 use Rattle.peeling.specs.Counts.{into, entering, Counted, Queued, RowDue, RowTaken, Earlier, Peels}
 use Rattle.peeling.proofs.Counting.{
   among-source,
@@ -240,7 +241,7 @@ module _ {ws : List ℕ} where
               ⊎_elim (λ (i : x ≡ v). subst (λ (y : ℕ). Reaches ws u y) (sym i) (one l)) (λ n. more l (reaches x n))
               (Memᴰ.cases_cons m)) l.inside back
 
-      pub peels-cyclic : count < size ws → Peels ws Cyclic
+      pub peels-cyclic : count < size ws → Peels ws (Err Cyclic)
       peels-cyclic short =
           record {
             cyclic-stands = λ _. loop;
@@ -298,7 +299,7 @@ module _ {ws : List ℕ} where
                     absurd
                     (p.listing.distinct m (index v (dec_le (suc v) (size ws))) (omega arith) (omega arith) (is ∙ sym at))
 
-        pub peels-rooted : sources ≡ 1 → get_or queue 0 0 ≡ 0 → Peels ws Rooted
+        pub peels-rooted : sources ≡ 1 → get_or queue 0 0 ≡ 0 → Peels ws (Ok tt)
         peels-rooted single root =
             record {
               cyclic-stands = λ q. let z : ◌≡◌ {A = ℕ} 0 1 = cc in absurd (omega arith);
@@ -328,7 +329,7 @@ module _ {ws : List ℕ} where
                 let (m, low, _) = p.earlier 0 v (omega (arith, p.sound.shaped.nonempty)) l in
                 absurd (omega arith)
 
-        pub peels-apart : (sources ≡ 1 → get_or queue 0 0 ≡ 0 → ⊥) → Peels ws Apart
+        pub peels-apart : (sources ≡ 1 → get_or queue 0 0 ≡ 0 → ⊥) → Peels ws (Err Apart)
         peels-apart other =
             record {
               cyclic-stands = λ q. let z : ◌≡◌ {A = ℕ} 0 1 = cc in absurd (omega arith);

@@ -1,12 +1,12 @@
 -- This file states the contracts of the functions that count the links of a graph and take its sources away. A source is a node that no
 -- link enters. `incoming` counts for each node the links that still enter it, and `queue` lists the nodes that no counted link enters.
-use Rattle.std.specs.Prelude.{◌≡◌, Bool, true, false, cond, List, ℕ, zero, suc, ◌+◌, ◌≤◌, ◌<◌, eqb, leb, length, get_or}
+use Rattle.std.specs.Prelude.{◌≡◌, Bool, true, false, cond, List, ℕ, ⊤, Result, Ok, Err, zero, suc, ◌+◌, ◌≤◌, ◌<◌, eqb, leb, length, get_or}
 use Rattle.layout.specs.Layout.{size, links_from, row_end, label_at, target_at, Shaped, Sound}
 use Rattle.visits.specs.Colouring.{whites}
 use Rattle.visits.specs.Walks.{Leads, Reaches}
 use Rattle.peeling.specs.Range.{label_in_range}
-use Rattle.peeling.specs.declared.Shape.{Shape}
-use Rattle.peeling.specs.declared.Shape.TheVariants.{Cyclic, Apart, Rooted}
+use Rattle.peeling.specs.declared.Unrooted.{Unrooted}
+use Rattle.peeling.specs.declared.Unrooted.TheVariants.{Cyclic, Apart}
 
 -- 1 where the link counts and its target is w, else 0
 unfoldable pub hit : Bool → ℕ → ℕ → ℕ
@@ -88,9 +88,9 @@ pub record Earlier (ws : List ℕ) (place : ℕ → ℕ) : Type 0 where
   pub earlier : (v w : ℕ) → Leads ws v w → place w < place v
 
 -- What the answer tells. Cyclic: some node reaches itself. Otherwise the nodes have places so that every link leads to an earlier one.
--- Rooted: a link enters every node but the root. Apart: no link enters some node beside the root.
-pub record Peels (ws : List ℕ) (answer : Shape) : Type 0 where
-  pub cyclic-stands : answer ≡ Cyclic → (v : ℕ) × Reaches ws v v
-  pub sorted : (answer ≡ Cyclic → ⊥) → (place : ℕ → ℕ) × Earlier ws place
-  pub rooted-stands : answer ≡ Rooted → (w : ℕ) → 0 < w → w < size ws → (v : ℕ) × Leads ws v w
-  pub apart-stands : answer ≡ Apart → (w : ℕ) × (0 < w) × (w < size ws) × ((v : ℕ) → Leads ws v w → ⊥)
+-- Apart: no link enters some node beside the root. Ok: a link enters every node but the root.
+pub record Peels (ws : List ℕ) (answer : Result ⊤ Unrooted) : Type 0 where
+  pub cyclic-stands : answer ≡ Err Cyclic → (v : ℕ) × Reaches ws v v
+  pub sorted : (answer ≡ Err Cyclic → ⊥) → (place : ℕ → ℕ) × Earlier ws place
+  pub rooted-stands : answer ≡ Ok tt → (w : ℕ) → 0 < w → w < size ws → (v : ℕ) × Leads ws v w
+  pub apart-stands : answer ≡ Err Apart → (w : ℕ) × (0 < w) × (w < size ws) × ((v : ℕ) → Leads ws v w → ⊥)

@@ -13,12 +13,11 @@ ghost use Rattle.peeling.specs.Counts.{Count, Counted, LevelsOrdered, Peels, Que
 
 use layout::Label;
 
-// What is found: a cycle; else a node other than the root that no link enters; else neither.
+// Why the root does not reach every node without a cycle: there is a cycle; else no link enters some node beside the root.
 #[derive(Clone, Copy)]
-pub enum Shape {
+pub enum Unrooted {
     Cyclic,
     Apart,
-    Rooted,
 }
 
 // Whether the targets of the links of node v are nodes. If so, the links of v are added to the counts, which have those of the nodes
@@ -28,16 +27,13 @@ fn count_row<'a>(graph: &'a [u16], v: usize, incoming: &mut [u16; 255]) -> bool
     requires counted { Counted graph.now v incoming.old }
     ensures { RowCount graph.now v result incoming.new }
 {
-    let nodes = graph[0] as usize;
-    let end = graph[v + 2] as usize;
-    let mut k = layout::links_from(graph, v);
-    while k < end {
-        let w = layout::target(graph[k]);
+    let nodes = layout::size(graph);
+    for link in layout::links(graph, v) {
+        let w = layout::target(*link);
         if nodes <= w {
             return false;
         }
         incoming[w] = incoming[w] + 1;
-        k += 1;
     }
     true
 }
@@ -49,13 +45,7 @@ fn is_label_in_range(n: usize, label: Label, ranged: bool) -> bool
     ensures { result ≡ label_in_range n (stated label) }
 {
     let kind = label.kind as usize;
-    if kind == 0 {
-        return false;
-    }
-    if n <= kind {
-        return false;
-    }
-    !ranged || label.lowest <= label.highest
+    0 < kind && kind < n && (!ranged || label.lowest <= label.highest)
 }
 
 // Whether the labels of all nodes are in range and the targets of all links are nodes; if not, refusal 5 applies. If so, `incoming` has
@@ -65,16 +55,13 @@ pub fn count_incoming(n: usize, graph: &[u16], ranged: bool, incoming: &mut [u16
     requires counted { Counted graph.now 0 incoming.old }
     ensures { Count n graph.now result incoming.new }
 {
-    let nodes = graph[0] as usize;
-    let mut v = 0;
-    while v < nodes {
+    for v in 0..layout::size(graph) {
         if !is_label_in_range(n, layout::label_at(graph, v), ranged) {
             return false;
         }
         if !count_row(graph, v, incoming) {
             return false;
         }
-        v += 1;
     }
     true
 }
@@ -86,13 +73,11 @@ fn find_sources<'a>(nodes: usize, incoming: &'a [u16; 255], queue: &mut [u16; 25
     ensures { Queued nodes incoming.now queue.new result }
 {
     let mut count = 0;
-    let mut v = 0;
-    while v < nodes {
+    for v in 0..nodes {
         if incoming[v] == 0 {
             queue[count] = v as u16;
             count += 1;
         }
-        v += 1;
     }
     count
 }
@@ -109,29 +94,26 @@ fn take_links<'a>(
     ensures { RowTaken graph.now v (row_end graph.now v) incoming.old queue.old queued incoming.new queue.new result }
 {
     let mut count = queued;
-    let end = graph[v + 2] as usize;
-    let mut k = layout::links_from(graph, v);
-    while k < end {
-        let w = layout::target(graph[k]);
+    for link in layout::links(graph, v) {
+        let w = layout::target(*link);
         let left = incoming[w] - 1;
         incoming[w] = left;
         if left == 0 {
             queue[count] = w as u16;
             count += 1;
         }
-        k += 1;
     }
     count
 }
 
 // Whether some node reaches itself, and if none does, whether a link enters every node but the root. The counts in `incoming` are
 // changed.
-pub fn sources_first(graph: &[u16], incoming: &mut [u16; 255]) -> Shape
+pub fn sources_first(graph: &[u16], incoming: &mut [u16; 255]) -> Result<(), Unrooted>
     requires sound { Sound graph.now }
     requires counted { Counted graph.now (size graph.now) incoming.old }
     ensures { Peels graph.now result }
 {
-    let nodes = graph[0] as usize;
+    let nodes = layout::size(graph);
     let mut queue = [0u16; 255];
     let sources = find_sources(nodes, incoming, &mut queue);
     let mut count = sources;
@@ -142,10 +124,10 @@ pub fn sources_first(graph: &[u16], incoming: &mut [u16; 255]) -> Shape
         next += 1;
     }
     if count < nodes {
-        return Shape::Cyclic;
+        return Err(Unrooted::Cyclic);
     }
     if sources == 1 && queue[0] == 0 {
-        return Shape::Rooted;
+        return Ok(());
     }
-    Shape::Apart
+    Err(Unrooted::Apart)
 }

@@ -16,8 +16,8 @@ use Rattle.graphs.specs.Number.{Canonical, written}
 use Rattle.graphs.proofs.Search.{both_true, true-both, not-true-false}
 use Rattle.lattice.specs.Label.{Label}
 use Rattle.acceptance.specs.declared.TableFault.{TableFault}
-use Rattle.acceptance.specs.declared.Opened.{Opened}
-use Rattle.acceptance.specs.declared.Opened.TheVariants as opened
+use Rattle.acceptance.specs.Reply.{TableAnswer}
+use Rattle.std.specs.Prelude.{Ok, Err}
 use Rattle.acceptance.specs.Reply as table
 use Rattle.record.specs.declared.GraphFault.{GraphFault}
 use Rattle.record.specs.Read.{Reading, refused, accepted, reading}
@@ -27,8 +27,8 @@ use Rattle.rows.specs.Rows.{lent_rows, lent_nodes, filled}
 use Rattle.rows.proofs.LentRows.{nodes-length}
 use Rattle.rows.proofs.Tables.{lent_length}
 use Rattle.replies.specs.declared.Side.TheVariants.{First}
-use Rattle.replies.specs.declared.Reply.{Reply}
-use Rattle.replies.specs.declared.Reply.TheVariants.{Counts, Table, Graph, NoRoom, TooLarge}
+use Rattle.replies.specs.Replies.{Reply}
+use Rattle.replies.specs.Replies.{Counts, Table, Graph, NoRoom, TooLarge}
 use Rattle.replies.specs.Reply.{refusal}
 use Rattle.planning.specs.Exportable.{WrittenForm}
 use Rattle.planning.specs.Planning.{Exported, exported_as, fits, exported_form, exported_rows, exported, exporting}
@@ -52,7 +52,7 @@ fits-exact form rows nodes = (
 
 module _ (n : ℕ) (t bytes : List ℕ) (rows : List lent.Row) (nodes : List ℕ) where
   abbrev Opens : Type 0
-  Opens = table.opened n t ≡ opened.Accepted
+  Opens = table.opened n t ≡ Ok tt
 
   -- "Too few rows or types"
   abbrev Few : List (Row Label) → Type 0
@@ -66,7 +66,7 @@ module _ (n : ℕ) (t bytes : List ℕ) (rows : List lent.Row) (nodes : List ℕ
       record {
         for-length = λ l. ⊥;
         for-counts = λ a b. Opens × ((form : List (Row Label)) × WrittenForm n bytes form × (length form ≡ a) × (links_in form ≡ b) × Room form);
-        for-table = λ fault. table.opened n t ≡ opened.Refused fault;
+        for-table = λ fault. table.opened n t ≡ Err fault;
         for-graph = λ fault. Opens × (reading n bytes ≡ refused fault);
         for-room = Opens × ((form : List (Row Label)) × WrittenForm n bytes form × Few form);
         for-unknown = ⊥;
@@ -94,9 +94,9 @@ module _ (n : ℕ) (t bytes : List ℕ) (rows : List lent.Row) (nodes : List ℕ
           let (form, is) = accepted-fits n bytes graph q in
           lent e form (record { graph = graph; reads = q; is = is }) (dec_le (links_in form) (length rows)) (dec_le (length form * 3) (length nodes))
 
-      tabled : (o : Opened) → table.opened n t ≡ o → Told
-      tabled (opened.Refused fault) e = bad-table fault e
-      tabled opened.Accepted e = read e (reading n bytes) refl
+      tabled : (o : TableAnswer) → table.opened n t ≡ o → Told
+      tabled (Err fault) e = bad-table fault e
+      tabled (Ok tt) e = read e (reading n bytes) refl
 
   -- What export gives in each case.
 
@@ -146,7 +146,7 @@ module _ (n : ℕ) (t bytes : List ℕ) (rows : List lent.Row) (nodes : List ℕ
   exact r back = (λ e. subst (Due grounds) e export-due, back)
 
   -- 1 to 3 are given exactly where they are due.
-  pub table-exact : (fault : TableFault) → (result.reply ≡ Table fault) ↔ (table.opened n t ≡ opened.Refused fault)
+  pub table-exact : (fault : TableFault) → (result.reply ≡ Table fault) ↔ (table.opened n t ≡ Err fault)
   table-exact fault = exact (Table fault) (λ g. ap (λ (x : Exported). x.reply) (table-result fault g))
 
   -- 4 to 7 are given exactly where they are due.

@@ -1,13 +1,14 @@
 -- What export does in each case: a refusal, or the rows and node bytes of the written form.
 use mathlib.Core.Path.{◌≡◌, refl, sym, ◌∙◌, ap, ap₂}
 use mathlib.Core.Bool.{Bool, true, false, cond, ◌&&◌}
-use mathlib.Core.List.{List, ◌++◌}
+use mathlib.Core.List.{List}
 use mathlib.Core.Option.{some}
 use Prim.Native.Nat.{ℕ, ◌*◌, ◌≤◌, ◌<◌}
 use native.Mathlib.Omega.{arith}
 use borrow.Author.Tests.{le-leb, lt-leb}
 use lib.Dec.{eqb, leb}
-use lib.ListN.{length, take, drop}
+use lib.ListN.{length}
+use Rattle.std.specs.Prelude.{Ok, Err}
 use Rattle.graphs.specs.Graph.{Reached}
 use Rattle.graphs.specs.Rows.{Row}
 use Rattle.graphs.specs.Large.{links_in}
@@ -17,7 +18,6 @@ use Rattle.graphs.proofs.Form.Rules.{form-links}
 use Rattle.graphs.proofs.Search.{true-false}
 use Rattle.lattice.specs.Label.{Label}
 use Rattle.acceptance.specs.declared.TableFault.{TableFault}
-use Rattle.acceptance.specs.declared.Opened.TheVariants as opened
 use Rattle.acceptance.specs.Reply as table
 use Rattle.layout.specs.Layout.{Sound, size, rows_of, graph_in}
 use Rattle.layout.proofs.Places.{link-known}
@@ -25,37 +25,18 @@ use Rattle.layout.proofs.Reaching.{reached-inside}
 use Rattle.layout.proofs.Rows.{length-rows}
 use Rattle.numbering.specs.Copies.{Renumbers}
 use Rattle.record.specs.declared.GraphFault.{GraphFault}
-use Rattle.record.specs.declared.reading.Verdict.{Verdict}
-use Rattle.record.specs.declared.reading.Verdict.TheVariants.{Accepted, Refused}
 use Rattle.record.specs.Read.{Reading, reading}
-use Rattle.record.specs.Reads.{ReadsAs}
+use Rattle.record.specs.Reads.{ReadsAs, Verdict}
 use Rattle.rows.specs.declared.Row as lent
 use Rattle.rows.specs.Rows.{filled, lent_rows, lent_nodes}
 use Rattle.rows.specs.Lending.{Lendable}
 use Rattle.rows.proofs.LentRows.{nodes-length}
 use Rattle.rows.proofs.Tables.{lent_length}
 use Rattle.replies.specs.declared.Side.TheVariants.{First}
-use Rattle.replies.specs.declared.Reply.{Reply}
-use Rattle.replies.specs.declared.Reply.TheVariants.{Counts, Graph, NoRoom, Table, TooLarge}
+use Rattle.replies.specs.Replies.{Counts, Graph, NoRoom, Table, TooLarge}
 use Rattle.pairs.proofs.Readings.{told-accepted, told-refused}
 use Rattle.calls.proofs.Tables.{table-refused, table-accepted}
-use Rattle.planning.specs.Planning.{Exported, exported_as, fits, exported_form, exported_rows, exported, exporting, Makes}
-
--- A refusal stores nothing.
-pub makes_none : {export : List lent.Row → Exported} {room : ℕ} {answer said : Reply} {count : ℕ} {at : List lent.Row} {nodes : List ℕ} → said ≡ answer → count ≡ 0 →
-    ((rows : List lent.Row) → length rows ≡ room → exported_as answer rows nodes ≡ export rows) → Makes export room said count at nodes
-makes_none {at = at} {nodes = nodes} e none h =
-    record {
-      inside = omega arith;
-      few = omega arith;
-      stored = λ rows l.
-          ap₂ (λ (a : Reply) (k : ℕ). exported_as a (take k at ++ drop k rows) nodes) e none ∙ h rows l;
-    }
-
--- `Makes` holds for an equal export.
-pub makes-as : {export other : List lent.Row → Exported} {room : ℕ} {answer : Reply} {count : ℕ} {at : List lent.Row} {nodes : List ℕ} →
-    Makes export room answer count at nodes → ((rows : List lent.Row) → export rows ≡ other rows) → Makes other room answer count at nodes
-makes-as m h = record { inside = m.inside; few = m.few; stored = λ rows l. m.stored rows l ∙ h rows }
+use Rattle.planning.specs.Planning.{Exported, exported_as, fits, exported_form, exported_rows, exported, exporting}
 
 -- The export of a graph in words.
 module _ {ws : List ℕ} (sound : Sound ws) {b : Bool} {new : List ℕ} (r : Renumbers (canonical eqb (graph_in ws)) b new) where
@@ -124,38 +105,29 @@ module _ {ws : List ℕ} (sound : Sound ws) {b : Bool} {new : List ℕ} (r : Ren
           (le-leb (length (lent_rows (rows_of new))) (length rows) (omega (arith, links-are)))
           (le-leb (length (lent_nodes (rows_of new))) (length nodes) (omega (arith, bytes-are))))
 
-    -- Rows and node bytes are made where there is room.
-    pub makes-full : {room count links : ℕ} {at : List lent.Row} (nodes : List ℕ) {made : List ℕ} → links ≡ links_in (rows_of new) → links ≤ room → count ≡ size new →
-        size new * 3 ≤ length nodes → made ≡ filled (lent_nodes (rows_of new)) nodes → take (links_in (rows_of new)) at ≡ lent_rows (rows_of new) →
-        Makes (λ rows. exported_rows (rows_of ws) rows nodes) room (Counts count links) links at made
-    makes-full {room} {count} {links} {at} nodes {made} e inside c bytes filling lending =
-        let n : count ≡ length (rows_of new) = c ∙ sym (length-rows new 0 (size new)) in
-        let l : links ≡ length (lent_rows (rows_of new)) = e ∙ links-are in
-        record {
-          inside = inside;
-          few = omega (arith, lendable.short);
-          stored = λ rows h.
-              ap₂ (λ (x y : ℕ). exported_as (Counts x y) (take links at ++ drop links rows) made) n l
-              ∙ ap₂ (λ (x : List lent.Row) (y : ℕ). exported_as (Counts (length (rows_of new)) (length (lent_rows (rows_of new)))) (x ++ drop y rows) made)
-              (ap (λ (k : ℕ). take k at) e ∙ lending) l
-              ∙ ap (λ (x : List ℕ). exported_as (Counts (length (rows_of new)) (length (lent_rows (rows_of new)))) (filled (lent_rows (rows_of new)) rows) x) filling
-              ∙ export-full rows nodes (omega arith) bytes;
-        }
+    -- Rows and node bytes are filled where there is room.
+    pub export-filled : {count links : ℕ} (rows : List lent.Row) {filling : List lent.Row} (nodes : List ℕ) {bytes : List ℕ} → links ≡ links_in (rows_of new) →
+        count ≡ size new → links_in (rows_of new) ≤ length rows → size new * 3 ≤ length nodes → filling ≡ filled (lent_rows (rows_of new)) rows →
+        bytes ≡ filled (lent_nodes (rows_of new)) nodes → exported_as (Counts count links) filling bytes ≡ exported_rows (rows_of ws) rows nodes
+    export-filled {count} {links} rows {filling} nodes {bytes} l c enough room lends fills =
+        ap₂ (λ (x y : ℕ). exported_as (Counts x y) filling bytes) (c ∙ sym (length-rows new 0 (size new))) (l ∙ links-are)
+        ∙ ap₂ (λ (x : List lent.Row) (y : List ℕ). exported_as (Counts (length (rows_of new)) (length (lent_rows (rows_of new)))) x y) lends fills
+        ∙ export-full rows nodes enough room
 
 -- The export of a record.
 module _ {n : ℕ} {o : Reading} {v : Verdict} {ws : List ℕ} (tells : ReadsAs n o v ws) (nodes : List ℕ) where
-  pub read-refused : (fault : GraphFault) → v ≡ Refused fault → (rows : List lent.Row) → exported_as (Graph fault First) rows nodes ≡ exported o rows nodes
+  pub read-refused : (fault : GraphFault) → v ≡ Err fault → (rows : List lent.Row) → exported_as (Graph fault First) rows nodes ≡ exported o rows nodes
   read-refused fault e rows = sym (ap (λ (i : Reading). exported i rows nodes) (told-refused tells fault e))
 
-  pub read-accepted : v ≡ Accepted → (rows : List lent.Row) → exported_rows (rows_of ws) rows nodes ≡ exported o rows nodes
+  pub read-accepted : v ≡ Ok tt → (rows : List lent.Row) → exported_rows (rows_of ws) rows nodes ≡ exported o rows nodes
   read-accepted e rows = sym (ap (λ (i : Reading). exported i rows nodes) (told-accepted tells e).is)
 
 -- The table's 1 to 3 come before that.
 module _ (n : ℕ) (t bytes nodes : List ℕ) (rows : List lent.Row) where
-  pub exporting-refused : (fault : TableFault) → table.opened n t ≡ opened.Refused fault → exported_as (Table fault) rows nodes ≡ exporting n t bytes rows nodes
+  pub exporting-refused : (fault : TableFault) → table.opened n t ≡ Err fault → exported_as (Table fault) rows nodes ≡ exporting n t bytes rows nodes
   unfolding exporting
   exporting-refused fault e = sym (table-refused (λ r. exported_as r rows nodes) (exported (reading n bytes) rows nodes) fault e)
 
-  pub exporting-accepted : table.opened n t ≡ opened.Accepted → exported (reading n bytes) rows nodes ≡ exporting n t bytes rows nodes
+  pub exporting-accepted : table.opened n t ≡ Ok tt → exported (reading n bytes) rows nodes ≡ exporting n t bytes rows nodes
   unfolding exporting
   exporting-accepted e = sym (table-accepted (λ r. exported_as r rows nodes) (exported (reading n bytes) rows nodes) e)

@@ -10,6 +10,7 @@ use native.Mathlib.Omega.{arith}
 use borrow.Author.Tests.{le-leb, lt-leb}
 use lib.Dec.{eqb}
 use lib.ListN.{length, get_or}
+use Rattle.std.specs.Prelude.{Ok, Err}
 use Rattle.graphs.specs.Graph.{Reached}
 use Rattle.graphs.specs.Rows.{Row}
 use Rattle.graphs.specs.Number.{Canonical, canonical, written, member}
@@ -19,13 +20,11 @@ use Rattle.graphs.proofs.Form.Rules.{form-nodes}
 use Rattle.graphs.proofs.Form.Large.{canonical-fits}
 use Rattle.lattice.specs.Label.{Label}
 use Rattle.acceptance.specs.declared.TableFault.{TableFault}
-use Rattle.acceptance.specs.declared.Opened.{Opened}
-use Rattle.acceptance.specs.declared.Opened.TheVariants as opened
-use Rattle.acceptance.specs.Reply.{table_number}
+use Rattle.acceptance.specs.Reply.{table_number, TableAnswer}
 use Rattle.acceptance.specs.Reply as table
 use Rattle.lattice.proofs.Every.{below_suc}
 use Rattle.encoder.specs.Encode.{encoded}
-use Rattle.encode.specs.declared.Written.TheVariants as outcome
+use Rattle.encode.specs.declared.Unwritten.TheVariants as unwritten
 use Rattle.encode.specs.Encode.{written_out, fitted, yielding}
 use Rattle.peeling.proofs.Range.{LabelInRange}
 use Rattle.record.specs.declared.GraphFault.{GraphFault}
@@ -41,8 +40,8 @@ use Rattle.rows.specs.Faults.{Sized, Unsized, KnownRow, UnknownRow, Twice, Forme
 use Rattle.rows.proofs.Tables.{stated, table-links}
 use Rattle.rows.proofs.Tests.{sized-exact, unsized-exact, all-known-exact, some-unknown-exact, twice-exact, once-exact}
 use Rattle.replies.specs.declared.Side.TheVariants.{First}
-use Rattle.replies.specs.declared.Reply.{Reply}
-use Rattle.replies.specs.declared.Reply.TheVariants.{Length, Table, Graph, NoRoom, TooLarge, RowOutOfRange, RowTwice}
+use Rattle.replies.specs.Replies.{Reply}
+use Rattle.replies.specs.Replies.{Length, Table, Graph, NoRoom, TooLarge, RowOutOfRange, RowTwice}
 use Rattle.replies.specs.Reply.{Result, refusal, resulting, refusing, result_of}
 use Rattle.engine.specs.Rewriting.{rewritten, rewritten_rows}
 use Rattle.engine.proofs.Tables.{few-types}
@@ -166,7 +165,7 @@ module _ (n : ℕ) (t : List ℕ) (rows : List lent.Row) (nodes out : List ℕ) 
   RecordLength P = (form : List (Row Label)) × (canonical eqb (table_graph nodes rows) ≡ written form) × P (length (encoded form))
 
   abbrev Opens : Type 0
-  Opens = table.opened n t ≡ opened.Accepted
+  Opens = table.opened n t ≡ Ok tt
 
   abbrev Labelled : Type 0
   Labelled = (v : ℕ) → v < nodes_in nodes → InsideLabel n (label_in nodes v)
@@ -184,7 +183,7 @@ module _ (n : ℕ) (t : List ℕ) (rows : List lent.Row) (nodes out : List ℕ) 
       record {
         for-length = λ l. Opens × Importable n nodes rows × RecordLength (λ m. (m ≡ l) × (m ≤ length out));
         for-counts = λ a b. ⊥;
-        for-table = λ fault. table.opened n t ≡ opened.Refused fault;
+        for-table = λ fault. table.opened n t ≡ Err fault;
         for-graph = for_graph;
         for-room = Opens × Importable n nodes rows × RecordLength (λ m. length out < m);
         for-unknown = Opens × Sized nodes (length rows) × ((r : lent.Row) × Memᴰ r rows × UnknownRow (nodes_in nodes) r);
@@ -228,9 +227,9 @@ module _ (n : ℕ) (t : List ℕ) (rows : List lent.Row) (nodes out : List ℕ) 
       sized e true q = known e ((sized-exact nodes (length rows)).0 q) (all_known (nodes_in nodes) rows) refl
       sized e false q = bad-graph Malformed (e, (unsized-exact nodes (length rows)).0 q)
 
-      tabled : (o : Opened) → table.opened n t ≡ o → Told
-      tabled (opened.Refused fault) e = bad-table fault e
-      tabled opened.Accepted e = sized e (is_sized nodes (length rows)) refl
+      tabled : (o : TableAnswer) → table.opened n t ≡ o → Told
+      tabled (Err fault) e = bad-table fault e
+      tabled (Ok tt) e = sized e (is_sized nodes (length rows)) refl
 
   -- What import gives in each case.
 
@@ -283,14 +282,14 @@ module _ (n : ℕ) (t : List ℕ) (rows : List lent.Row) (nodes out : List ℕ) 
   unfolding written_out fitted
   length-result e ok form q h =
       import-is e ok ∙ ap (λ (c : Canonical Label). result_of (written_out c out)) q
-      ∙ ap (λ (b : Bool). result_of (cond b (yielding (outcome.Length (length (encoded form))) (filled (encoded form) out)) (yielding outcome.NoRoom out)))
+      ∙ ap (λ (b : Bool). result_of (cond b (yielding (Ok (length (encoded form))) (filled (encoded form) out)) (yielding (Err unwritten.NoRoom) out)))
       (le-leb (length (encoded form)) (length out) h)
 
   room-result : grounds.for-room → result ≡ refusing NoRoom out
   unfolding written_out fitted
   room-result (e, ok, (form, q, h)) =
       import-is e ok ∙ ap (λ (c : Canonical Label). result_of (written_out c out)) q
-      ∙ ap (λ (b : Bool). result_of (cond b (yielding (outcome.Length (length (encoded form))) (filled (encoded form) out)) (yielding outcome.NoRoom out)))
+      ∙ ap (λ (b : Bool). result_of (cond b (yielding (Ok (length (encoded form))) (filled (encoded form) out)) (yielding (Err unwritten.NoRoom) out)))
       (lt-leb (length (encoded form)) (length out) h)
 
   -- Whichever reply is given, it is due.
@@ -320,7 +319,7 @@ module _ (n : ℕ) (t : List ℕ) (rows : List lent.Row) (nodes out : List ℕ) 
   exact r back = (λ e. subst (Due grounds) e import-due, back)
 
   -- 1 to 3 are given exactly where they are due.
-  pub table-exact : (fault : TableFault) → (result.reply ≡ Table fault) ↔ (table.opened n t ≡ opened.Refused fault)
+  pub table-exact : (fault : TableFault) → (result.reply ≡ Table fault) ↔ (table.opened n t ≡ Err fault)
   table-exact fault = exact (Table fault) (λ g. ap (λ (x : Result). x.reply) (table-result fault g))
 
   -- 4, 5, 6 and 7 are given exactly where they are due.

@@ -10,20 +10,19 @@ use native.Mathlib.Omega.{arith}
 use borrow.Author.Tests.{eq-eqb, ne_eqb, le-leb, lt-leb}
 use lib.Dec.{leb}
 use lib.ListN.{length, get_or, take, replicate, get_or-replicate, length-replicate, get_or-eq_default}
-use lib.Seq.{length-take-le, take_all}
+use lib.Seq.{take_all}
 use Rattle.graphs.specs.Rows.{Row}
 use Rattle.graphs.specs.Large.{links_in}
 use Rattle.graphs.proofs.Lists.{from_member}
 use Rattle.graphs.proofs.Search.{not-true-false}
 use Rattle.lattice.specs.Label.{Label}
 use Rattle.acceptance.specs.declared.TableFault.{TableFault}
-use Rattle.acceptance.specs.declared.Opened.TheVariants as opened
+use Rattle.std.specs.Prelude.{Ok, Err}
 use Rattle.acceptance.specs.Reply as table
 use Rattle.layout.specs.Layout.{rows_of}
 use Rattle.record.specs.declared.GraphFault.TheVariants.{Malformed, OutOfRange, Cyclic, Unreached}
-use Rattle.record.specs.declared.reading.Verdict.{Verdict}
 use Rattle.record.specs.Read.{refused, accepted, in_range, cyclic, reaches_all, judged}
-use Rattle.record.specs.Reads.{ReadsAs}
+use Rattle.record.specs.Reads.{ReadsAs, Verdict}
 use Rattle.record.proofs.Readings.{in-range}
 use Rattle.rows.specs.declared.Row as lent
 use Rattle.rows.specs.Rows.{nodes_in, table_rows, is_sized, all_known, has_twice}
@@ -32,7 +31,7 @@ use Rattle.rows.specs.Filling.{placed_row, placed_rows, Labelled, Fillable, Fill
 use Rattle.rows.proofs.Tables.{placed-table, table-links}
 use Rattle.rows.proofs.Tests.{sized-exact, unsized-exact}
 use Rattle.replies.specs.declared.Side.TheVariants.{First}
-use Rattle.replies.specs.declared.Reply.TheVariants.{Table, Graph, RowOutOfRange, RowTwice}
+use Rattle.replies.specs.Replies.{Table, Graph, RowOutOfRange, RowTwice}
 use Rattle.replies.specs.Reply.{Result, resulting, refusing}
 use Rattle.engine.specs.Rewriting.{rewritten}
 use Rattle.calls.specs.Calls.{checked}
@@ -117,22 +116,16 @@ module _ (n count : ℕ) (rows : List lent.Row) (nodes out : List ℕ) where
       import-written e = import-once ∙ ap (λ (b : Bool). cond b (refusing RowTwice out) written) e
 
 -- Rows that are placed make a graph of 1 to 255 nodes and at most 2,048 links.
-pub placeable : (nodes targets : List ℕ) (all : List lent.Row) (count : ℕ) → is_sized nodes count ≡ true → length all ≡ 2048 → Placed (take count all) targets →
-    length targets ≡ 16320 → Placeable nodes targets
-placeable nodes targets all count sized long placed wide =
-    let (some-nodes, small, few) = sized-parts nodes count sized in
+pub placeable : (nodes targets : List ℕ) (rows : List lent.Row) → is_sized nodes (length rows) ≡ true → Placed rows targets → length targets ≡ 16320 →
+    Placeable nodes targets
+placeable nodes targets rows sized placed wide =
+    let (some-nodes, small, few) = sized-parts nodes (length rows) sized in
     record {
       some-nodes = some-nodes;
       small = small;
       low = placed.low;
       long = wide;
-      links =
-          omega (
-            arith,
-            ap links_in (placed-table nodes targets (take count all) small placed),
-            table-links nodes (take count all),
-            length-take-le count all (omega arith),
-          );
+      links = omega (arith, ap links_in (placed-table nodes targets rows small placed), table-links nodes rows);
     }
 
 pub not-not : (b : Bool) {t : Bool} → t ≡ not b → t ≡ true → b ≡ false
@@ -152,11 +145,11 @@ none-placed k = go (dec_lt k 16320)
 
 -- The table's 1 to 3 come before that.
 module _ (n : ℕ) (t : List ℕ) (count : ℕ) (rows : List lent.Row) (nodes out : List ℕ) where
-  pub importing-refused : (fault : TableFault) → table.opened n t ≡ opened.Refused fault → resulting (Table fault) out ≡ importing n t count rows nodes out
+  pub importing-refused : (fault : TableFault) → table.opened n t ≡ Err fault → resulting (Table fault) out ≡ importing n t count rows nodes out
   unfolding importing
   importing-refused fault e = sym (table-refused (λ r. refusing r out) (imported n count rows nodes out) fault e)
 
-  pub importing-accepted : table.opened n t ≡ opened.Accepted → imported n count rows nodes out ≡ importing n t count rows nodes out
+  pub importing-accepted : table.opened n t ≡ Ok tt → imported n count rows nodes out ≡ importing n t count rows nodes out
   unfolding importing
   importing-accepted e = sym (table-accepted (λ r. refusing r out) (imported n count rows nodes out) e)
 

@@ -12,17 +12,17 @@ use borrow.Author.Tests.{eqb-true, eq-eqb}
 use lib.Dec.{eqb, leb}
 use lib.ListN.{length, get_or, take, drop}
 use lib.Seq.{take_at, drop_at, get_or-take, length_front, length-take-le}
+use Rattle.std.specs.Prelude.{Ok, Err}
 use Rattle.graphs.specs.Graph.{SameMeaning}
 use Rattle.graphs.specs.Rows.{Row}
 use Rattle.graphs.specs.Large.{links_in}
 use Rattle.graphs.specs.Number.{Canonical, canonical, written}
 use Rattle.graphs.proofs.Search.{both_true, true-both}
-use Rattle.acceptance.specs.declared.Opened.TheVariants as opened
 use Rattle.lattice.specs.Label.{Label, is_full}
 use Rattle.lattice.specs.Labels.{table_labels}
 use Rattle.acceptance.specs.Reply as table
 use Rattle.encoder.specs.Encode.{encoded}
-use Rattle.encode.specs.declared.Written.TheVariants as outcome
+use Rattle.encode.specs.declared.Unwritten.TheVariants as unwritten
 use Rattle.encode.specs.Encode.{written_out, fitted, yielding}
 use Rattle.record.specs.Read.{Reading, accepted, reading, graph_of_rows}
 use Rattle.record.proofs.Accepted.{Rules, accepted-rules, accepted-injective}
@@ -37,7 +37,7 @@ use Rattle.rows.proofs.LentOnce.{lent-table, lent-once, lent-known}
 use Rattle.rows.proofs.Sorted.{lent-sorted}
 use Rattle.rows.proofs.Tables.{lent_length}
 use Rattle.rows.proofs.Tests.{all-known-exact, once-exact}
-use Rattle.replies.specs.declared.Reply.TheVariants.{Length, Counts}
+use Rattle.replies.specs.Replies.{Length, Counts}
 use Rattle.replies.specs.Reply.{Result, result_of}
 use Rattle.engine.specs.Rewriting.{rewritten_rows}
 use Rattle.engine.proofs.Tables.{few-types}
@@ -51,7 +51,7 @@ use Rattle.planning.proofs.ImportDue as import
 use Rattle.planning.proofs.ExportDue as export
 
 -- Rewriting an accepted record writes its graph.
-rewriting-is : (n : ℕ) (t bytes : List ℕ) (graph : List (Row Label)) → table.opened n t ≡ opened.Accepted → reading n bytes ≡ accepted graph → (out : List ℕ) →
+rewriting-is : (n : ℕ) (t bytes : List ℕ) (graph : List (Row Label)) → table.opened n t ≡ Ok tt → reading n bytes ≡ accepted graph → (out : List ℕ) →
     rewriting n t bytes out ≡ rewritten_rows out graph
 unfolding rewriting
 rewriting-is n t bytes graph opens reads out = rw (opens, reads)
@@ -60,8 +60,8 @@ fitted-bytes : (bytes old : List ℕ) (l : ℕ) → (result_of (fitted bytes old
 unfolding fitted
 fitted-bytes bytes old l = go (leb (length bytes) (length old))
   where
-    go : (b : Bool) → (result_of (cond b (yielding (outcome.Length (length bytes)) (bytes ++ drop (length bytes) old)) (yielding outcome.NoRoom old))).reply ≡ Length l →
-        take l (result_of (cond b (yielding (outcome.Length (length bytes)) (bytes ++ drop (length bytes) old)) (yielding outcome.NoRoom old))).output ≡ bytes
+    go : (b : Bool) → (result_of (cond b (yielding (Ok (length bytes)) (bytes ++ drop (length bytes) old)) (yielding (Err unwritten.NoRoom) old))).reply ≡ Length l →
+        take l (result_of (cond b (yielding (Ok (length bytes)) (bytes ++ drop (length bytes) old)) (yielding (Err unwritten.NoRoom) old))).output ≡ bytes
     go false e = let z : ◌≡◌ {A = ℕ} 0 1 = cc in absurd (omega arith)
     go true e = let same : length bytes ≡ l = cc in take_at bytes (drop (length bytes) old) l same
 
@@ -95,7 +95,7 @@ module _ (n : ℕ) (t bytes : List ℕ) (form : List (Row Label)) (w : WrittenFo
   lent-importable : Importable n (lent_nodes form) (lent_rows form)
   lent-importable = rules-importable (lent_nodes form) (lent_rows form) n lent-formed (subst (Rules n) (sym states) rules)
 
-  lent-imported : table.opened n t ≡ opened.Accepted → (out : List ℕ) → importing_rows n t (lent_rows form) (lent_nodes form) out ≡ rewriting n t bytes out
+  lent-imported : table.opened n t ≡ Ok tt → (out : List ℕ) → importing_rows n t (lent_rows form) (lent_nodes form) out ≡ rewriting n t bytes out
   lent-imported opens out =
       import.import-is n t (lent_rows form) (lent_nodes form) out opens lent-importable
       ∙ ap (rewritten_rows out) states
@@ -103,7 +103,7 @@ module _ (n : ℕ) (t bytes : List ℕ) (form : List (Row Label)) (w : WrittenFo
       ∙ sym (rewriting-is n t bytes w.graph opens w.reads out)
 
   -- the record that rewriting writes is read as this form
-  pub form-written : table.opened n t ≡ opened.Accepted → (out : List ℕ) (l : ℕ) → (rewriting n t bytes out).reply ≡ Length l →
+  pub form-written : table.opened n t ≡ Ok tt → (out : List ℕ) (l : ℕ) → (rewriting n t bytes out).reply ≡ Length l →
       reading n (take l (rewriting n t bytes out).output) ≡ accepted form
   unfolding written_out
   form-written opens out l q =
@@ -113,7 +113,7 @@ module _ (n : ℕ) (t bytes : List ℕ) (form : List (Row Label)) (w : WrittenFo
       ∙ ap (reading n) (fitted-bytes (encoded form) out l (sym (ap (λ (r : Result). r.reply) e) ∙ q)) ∙ again.0
 
   -- The record that rewriting writes is exported as the given record is.
-  pub form-exported : table.opened n t ≡ opened.Accepted → (out : List ℕ) (l : ℕ) → (rewriting n t bytes out).reply ≡ Length l →
+  pub form-exported : table.opened n t ≡ Ok tt → (out : List ℕ) (l : ℕ) → (rewriting n t bytes out).reply ≡ Length l →
       (rs : List lent.Row) (ns : List ℕ) → exporting n t (take l (rewriting n t bytes out).output) rs ns ≡ exporting n t bytes rs ns
   unfolding exported_rows
   form-exported opens out l q rs ns =
@@ -142,12 +142,12 @@ module _ (n : ℕ) (t bytes : List ℕ) (rows : List lent.Row) (nodes : List ℕ
   abbrev result : Exported
   result = exporting n t bytes rows nodes
 
-  pub export-parts : (table.opened n t ≡ opened.Accepted) × (length form ≡ a) × (links_in form ≡ b) × (links_in form ≤ length rows) × (length form * 3 ≤ length nodes)
+  pub export-parts : (table.opened n t ≡ Ok tt) × (length form ≡ a) × (links_in form ≡ b) × (links_in form ≤ length rows) × (length form * 3 ≤ length nodes)
   export-parts =
       let (opens, (other, v, p, q, enough)) = (export.counts-exact n t bytes rows nodes a b).0 counts in
       subst
       (λ (x : List (Row Label)).
-      (table.opened n t ≡ opened.Accepted) × (length x ≡ a) × (links_in x ≡ b) × (links_in x ≤ length rows) × (length x * 3 ≤ length nodes))
+      (table.opened n t ≡ Ok tt) × (length x ≡ a) × (links_in x ≡ b) × (links_in x ≤ length rows) × (length x * 3 ≤ length nodes))
       (same-form n bytes other form v w) (opens, p, q, enough.0, enough.1)
 
   is : result ≡ exported_as (Counts (length form) (links_in form)) (filled (lent_rows form) rows) (filled (lent_nodes form) nodes)

@@ -17,7 +17,7 @@ use Rattle.rows.specs.Faults.{Twice}
 use Rattle.rows.proofs.Tests.{once-exact}
 use Rattle.rows.proofs.AnyOrder.{members-known, members-twice, members-length, members-table, members-any, length-any}
 use Rattle.replies.specs.declared.Side.TheVariants.{First}
-use Rattle.replies.specs.declared.Reply.TheVariants.{Graph, RowOutOfRange, RowTwice}
+use Rattle.replies.specs.Replies.{Graph, RowOutOfRange, RowTwice}
 use Rattle.replies.specs.Reply.{Result, refusing}
 use Rattle.engine.specs.Rewriting.{rewritten}
 use Rattle.calls.specs.Calls.{checked}

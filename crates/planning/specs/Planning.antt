@@ -1,6 +1,6 @@
 -- Import and export of a graph as rows and three bytes for each node (document 02, Papers 2 and 7): what each call replies and leaves in its
 -- outputs.
-use Rattle.std.specs.Prelude.{◌≡◌, Bool, cond, ◌&&◌, List, ◌++◌, ℕ, ◌≤◌, eqb, leb, length, get_or, take, drop}
+use Rattle.std.specs.Prelude.{◌≡◌, Bool, cond, ◌&&◌, List, ℕ, ◌≤◌, eqb, leb, length, get_or, take}
 use Rattle.std.proofs.Math.Option.{some}
 use Rattle.graphs.specs.Rows.{Row}
 use Rattle.graphs.specs.Large.{links_in}
@@ -13,8 +13,8 @@ use Rattle.rows.specs.declared.Row as lent
 use Rattle.rows.specs.Rows.{nodes_in, table_rows, is_sized, all_known, has_twice, lent_rows, lent_nodes, filled}
 use Rattle.rows.specs.Filling.{placed_rows}
 use Rattle.replies.specs.declared.Side.TheVariants.{First}
-use Rattle.replies.specs.declared.Reply.{Reply}
-use Rattle.replies.specs.declared.Reply.TheVariants.{Counts, Graph, NoRoom, TooLarge, RowOutOfRange, RowTwice}
+use Rattle.replies.specs.Replies.{Reply}
+use Rattle.replies.specs.Replies.{Counts, Graph, NoRoom, TooLarge, RowOutOfRange, RowTwice}
 use Rattle.replies.specs.Reply.{Result, refusing}
 use Rattle.engine.specs.Rewriting.{rewritten}
 use Rattle.calls.specs.Calls.{checked}
@@ -74,13 +74,6 @@ exported (accepted graph) rows nodes = exported_rows graph rows nodes
 -- Export with the table's 1 to 3 before the rest.
 unfoldable pub exporting : ℕ → List ℕ → List ℕ → List lent.Row → List ℕ → Exported
 exporting n t bytes rows nodes = checked (λ r. exported_as r rows nodes) (table.opened n t) (exported (reading n bytes) rows nodes)
-
--- What export makes before rows are stored. `export` gives the result that is due for lent rows: whichever `room` rows are lent, storing the
--- first `count` rows of `at` there gives that result.
-pub record Makes (export : List lent.Row → Exported) (room : ℕ) (answer : Reply) (count : ℕ) (at : List lent.Row) (nodes : List ℕ) : Type 0 where
-  pub inside : count ≤ room
-  pub few : count ≤ 2048
-  pub stored : (rows : List lent.Row) → length rows ≡ room → exported_as answer (take count at ++ drop count rows) nodes ≡ export rows
 
 -- What import asks of the placed rows: there are 1 to 255 nodes and at most 2,048 links.
 pub record Placeable (nodes targets : List ℕ) : Type 0 where

@@ -23,6 +23,7 @@ use Rattle.layout.proofs.Spans.{links-none, features-rise}
 use Rattle.layout.proofs.Places.{link-at, link-place}
 use Rattle.layout.proofs.Builder.{links-put}
 use Rattle.product.specs.declared.Spread.{Spread}
+use Rattle.std.specs.Prelude.{Some}
 use Rattle.product.specs.Queue.{clear, code_of, Marked, Enlisted, common, Numbered, Matched, Adds, Full, Spreads}
 
 -- The links of a pair.
@@ -328,15 +329,15 @@ module _ {a b : List ℕ} {u v : ℕ} {queue₀ words₀ : List ℕ} {known : Sp
       ap (both ((graph_in a).link u f)) (read_below right-sound s.begun.right-node s.right f low h) ∙ both_right ((graph_in a).link u f)
 
   -- If one of the rows is at its end, all links are added.
-  merge-done : (row_end a u ≤ i) ⊎ (row_end b v ≤ j) → Adds (common a b (u, v)) queue₀ words₀ known 64 marks queue words now
+  pub merge-done : (row_end a u ≤ i) ⊎ (row_end b v ≤ j) → Adds (common a b (u, v)) queue₀ words₀ known 64 marks queue words now
   merge-done over = adds-skip s.added 64 s.small (λ f low high. gone f low over)
     where
       gone : (f : ℕ) → s.bound ≤ f → (row_end a u ≤ i) ⊎ (row_end b v ≤ j) → common a b (u, v) f ≡ none
       gone f low (inl e) = left-none f low (λ h. absurd (omega arith))
       gone f low (inr e) = right-none f low (λ h. absurd (omega arith))
 
-  pub merge-spreads : (row_end a u ≤ i) ⊎ (row_end b v ≤ j) → Spreads (common a b (u, v)) queue₀ words₀ known marks queue words now
-  merge-spreads over = record { added = λ h. merge-done over; full = λ h. absurd (omega (arith, s.added.after.few)) }
+  pub merge-spreads : (row_end a u ≤ i) ⊎ (row_end b v ≤ j) → Spreads (common a b (u, v)) queue₀ words₀ known marks queue words (Some now)
+  merge-spreads over = merge-done over
 
   module _ (left_in : i < row_end a u) (right-in : j < row_end b v) where
     left-known : feature_at a i < 64

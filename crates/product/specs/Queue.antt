@@ -1,5 +1,5 @@
 -- The queue of the pairs of nodes that are known, with their marks, and what adding the links of one pair leaves.
-use Rattle.std.specs.Prelude.{◌≡◌, ℕ, ◌+◌, ◌*◌, ◌≤◌, ◌<◌, length, get_or}
+use Rattle.std.specs.Prelude.{◌≡◌, ℕ, ◌+◌, ◌*◌, ◌≤◌, ◌<◌, length, get_or, Option as Answer, None, Some}
 use mathlib.Core.List.{List, Memᴰ}
 use Rattle.std.proofs.Math.Option.{Option, some}
 use Rattle.graphs.specs.Generalize.{both}
@@ -35,9 +35,9 @@ pub record Enlisted (queue : List ℕ) (pair count : ℕ) (marks' queue' : List 
   pub found : get_or queue' (get_or marks' pair 0) 0 ≡ pair
 
 -- A pair that is offered to the queue is there afterwards, or it has no mark and all 255 numbers are in use.
-pub record Offered (marks queue : List ℕ) (pair count : ℕ) (marks' queue' : List ℕ) (next : ℕ) : Type 0 where
-  pub listed : next ≤ 255 → Enlisted queue pair count marks' queue' next
-  pub full : 255 < next → (count ≡ 255) × (get_or marks pair 0 ≡ clear)
+abbrev pub Offered : (marks queue : List ℕ) (pair count : ℕ) (marks' queue' : List ℕ) → Answer ℕ → Type 0
+Offered marks queue pair count marks' queue' None = (count ≡ 255) × (get_or marks pair 0 ≡ clear)
+Offered marks queue pair count marks' queue' (Some next) = Enlisted queue pair count marks' queue' next
 
 -- The pair that a feature of both leads to from a pair of nodes.
 abbrev pub common : List ℕ → List ℕ → ℕ × ℕ → ℕ → Option (ℕ × ℕ)
@@ -89,7 +89,7 @@ pub record Full (leads : ℕ → Option (ℕ × ℕ)) (queue words : List ℕ) (
   pub free : get_or marks' (code_of pair) 0 ≡ clear
 
 -- All links of a pair are added, or 255 numbers do not suffice.
-pub record Spreads (leads : ℕ → Option (ℕ × ℕ)) (queue words : List ℕ) (known : Spread) (marks' queue' words' : List ℕ) (next : Spread) :
-    Type 0 where
-  pub added : next.count ≤ 255 → Adds leads queue words known 64 marks' queue' words' next
-  pub full : 255 < next.count → Full leads queue words known
+abbrev pub Spreads : (leads : ℕ → Option (ℕ × ℕ)) (queue words : List ℕ) (known : Spread) (marks' queue' words' : List ℕ) → Answer Spread →
+    Type 0
+Spreads leads queue words known marks' queue' words' None = Full leads queue words known
+Spreads leads queue words known marks' queue' words' (Some next) = Adds leads queue words known 64 marks' queue' words' next

@@ -8,38 +8,41 @@ ghost use Rattle.std.specs.Prelude.{◌+◌, ◌≤◌, ◌<◌, length};
 ghost use Rattle.layout.specs.Layout.{Recorded, size};
 ghost use Rattle.product.specs.Queue.{Marked, Offered, Spreads, common};
 
-// The mark of a pair that has no number. Numbers are below it.
+// The mark of a pair that has no number. Numbers are below it. A byte and no `Option`, which would double the 65,025 bytes that each common part
+// clears.
 pub const CLEAR: u8 = 255;
 
-// The count that is answered when a pair needs a number and none is left.
-const FULL: usize = 256;
-
-// Gives the next number to a pair that has none. Answers how many pairs then have a number, or FULL where no number is left.
-fn enlist(marks: &mut [u8; 65025], queue: &mut [u16; 255], pair: usize, count: usize) -> usize
+// Gives the next number to a pair that has none. Answers how many pairs then have a number, or `None` where no number is left.
+fn enlist(
+    marks: &mut [u8; 65025],
+    queue: &mut [u16; 255],
+    pair: usize,
+    count: usize,
+) -> Option<usize>
     requires marked { Marked marks.old queue.old count }
     requires pair_bound { pair < 65025 }
     ensures { Offered marks.old queue.old pair count marks.new queue.new result }
 {
     let mark = marks[pair];
     if mark != CLEAR {
-        return count;
+        return Some(count);
     }
     if 254 < count {
-        return FULL;
+        return None;
     }
     marks[pair] = count as u8;
     queue[count] = pair as u16;
-    count + 1
+    Some(count + 1)
 }
 
-// Where the next word stands, and how many pairs have a number, or FULL where a pair got none.
+// Where the next word stands, and how many pairs have a number.
 #[derive(Clone, Copy)]
 pub struct Spread {
     pub at: usize,
     pub count: usize,
 }
 
-// Adds the links of the pair (u, v), which are those by features of both, at most 64. Stops at a pair for which no number is left.
+// Adds the links of the pair (u, v), which are those by features of both, at most 64. Stops with `None` at a pair for which no number is left.
 pub fn pair_links<'a>(
     a: &'a [u16],
     b: &'a [u16],
@@ -49,7 +52,7 @@ pub fn pair_links<'a>(
     queue: &mut [u16; 255],
     words: &mut [u16],
     known: Spread,
-) -> Spread
+) -> Option<Spread>
     requires recorded { Recorded a.now }
     requires recorded_2 { Recorded b.now }
     requires u_bound { (u < size a.now) × (v < size b.now) }
@@ -65,22 +68,19 @@ pub fn pair_links<'a>(
     let mut count = known.count;
     while i < a_end {
         if b_end <= j {
-            return Spread { at, count };
+            return Some(Spread { at, count });
         }
         let s = a[i];
         let t = b[j];
-        let f = s / layout::SCALE;
-        let h = t / layout::SCALE;
+        let f = layout::feature(s);
+        let h = layout::feature(t);
         if f < h {
             i += 1;
         } else if h < f {
             j += 1;
         } else {
-            let pair = (s % layout::SCALE) as usize * 255 + (t % layout::SCALE) as usize;
-            count = enlist(marks, queue, pair, count);
-            if 255 < count {
-                return Spread { at, count };
-            }
+            let pair = layout::target(s) * 255 + layout::target(t);
+            count = enlist(marks, queue, pair, count)?;
             let number = marks[pair];
             words[at] = layout::link(f, number as u16);
             at += 1;
@@ -88,5 +88,5 @@ pub fn pair_links<'a>(
             j += 1;
         }
     }
-    Spread { at, count }
+    Some(Spread { at, count })
 }

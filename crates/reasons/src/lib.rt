@@ -4,10 +4,14 @@
 
 #![tactic(auto)]
 
-ghost use Rattle.std.specs.Prelude.{◌≡◌, List, ℕ, ◌<◌, length};
+ghost use Rattle.std.specs.Prelude.{◌≡◌, Bool, List, ◌<◌, length};
 ghost use Rattle.layout.specs.Layout.{longest, size};
 ghost use Rattle.keeping.specs.Keeping.{Markable};
 ghost use Rattle.reasons.specs.Explaining.{Copied, Explains, ExplainsRow, reason_of};
+
+use groups::LinkMark;
+
+// The reasons are numbers and no enum: they are the bytes that the C interface hands to the caller.
 
 // Nothing of g lies over the link.
 pub const NOTHING_OVER: u8 = 1;
@@ -19,24 +23,22 @@ pub const GROUPS_MEET: u8 = 2;
 pub const WANTED: u8 = 3;
 
 // The reason for a link, by its mark and by what `meeting` has at the node that the link enters.
-fn reason_of(mark: u8, meeting: u8) -> u8
+fn reason_of(mark: LinkMark, meeting: bool) -> u8
     ensures { result ≡ reason_of mark meeting }
 {
-    if mark == groups::BARE {
-        return NOTHING_OVER;
+    match (mark, meeting) {
+        (LinkMark::Bare, _) => NOTHING_OVER,
+        (_, true) => GROUPS_MEET,
+        (_, false) => WANTED,
     }
-    if meeting == 1 {
-        return GROUPS_MEET;
-    }
-    WANTED
 }
 
-// Puts the reasons for the links of node v at their places. `meeting` has 1 at the nodes with two or more groups, or with a group that nothing of
+// Puts the reasons for the links of node v at their places. `meeting` has true at the nodes with two or more groups, or with a group that nothing of
 // g lies over.
 fn explain_row<'a>(
     s: &'a [u16],
-    marks: &'a [u8],
-    meeting: &'a [u8; 255],
+    marks: &'a [LinkMark],
+    meeting: &'a [bool; 255],
     words: &'a [u16],
     v: usize,
     reasons: &mut [u8; layout::LONGEST],
@@ -48,33 +50,30 @@ fn explain_row<'a>(
     let s_end = s[v + 2] as usize;
     let mut j = s[v + 1] as usize + layout::HEADER;
     let end = words[v + 2] as usize;
-    let mut k = words[v + 1] as usize + layout::HEADER;
-    while k < end {
-        j = subsume::seek(s, j, s_end, words[k] / layout::SCALE);
-        let target = (s[j] % layout::SCALE) as usize;
+    // The place k is needed: the reason for a link stands at its place.
+    for k in words[v + 1] as usize + layout::HEADER..end {
+        j = subsume::seek(s, j, s_end, layout::feature(words[k]));
+        let target = layout::target(s[j]);
         reasons[k] = reason_of(marks[j], meeting[target]);
-        k += 1;
     }
 }
 
 // Puts the reasons for the kept links of s at their places in the rows of the difference.
 pub fn explain_links<'a>(
     s: &'a [u16],
-    marks: &'a [u8],
+    marks: &'a [LinkMark],
     words: &'a [u16],
     reasons: &mut [u8; layout::LONGEST],
 )
-    requires by_index { (meeting : List ℕ) → length meeting ≡ 255 → Markable s.now marks.now meeting }
+    requires by_index { (meeting : List Bool) → length meeting ≡ 255 → Markable s.now marks.now meeting }
     requires copied { Copied s.now words.now × (length reasons.old ≡ longest) }
     ensures { Explains s.now marks.now words.now reasons.new }
 {
-    // For a covered leading link, 1 marks the targets that a second leading link enters.
-    let mut meeting = [0u8; 255];
+    // For a covered leading link, true marks the targets that a second leading link enters.
+    let mut meeting = [false; 255];
     keeping::keep::keep_entered(s, marks, &mut meeting);
     let nodes = s[0] as usize;
-    let mut v = 0;
-    while v < nodes {
+    for v in 0..nodes {
         explain_row(s, marks, &meeting, words, v, reasons);
-        v += 1;
     }
 }

@@ -8,6 +8,7 @@ use native.Mathlib.Decide.{ℕ_discrete}
 use borrow.Author.Tests.{leb-true, le-leb, eqb-true, eq-eqb}
 use lib.Dec.{eqb, leb}
 use lib.ListN.{length, get_or}
+use Rattle.std.specs.Prelude.{Ok, Err}
 use Rattle.graphs.specs.Rows.{Row}
 use Rattle.graphs.proofs.Search.{both_true, true-both, true-false, not-true-false}
 use Rattle.graphs.proofs.Order.{all_of-true, true-all_of}
@@ -20,10 +21,8 @@ use Rattle.layout.proofs.Rows.{rows-member, rows-source}
 use Rattle.layout.proofs.Spans.{links-at, links-member}
 use Rattle.record.specs.declared.GraphFault.{GraphFault}
 use Rattle.record.specs.declared.GraphFault.TheVariants.{Inappropriate}
-use Rattle.record.specs.declared.reading.Verdict.{Verdict}
-use Rattle.record.specs.declared.reading.Verdict.TheVariants.{Accepted, Refused}
 use Rattle.record.specs.Read.{Reading, refused, accepted, reading}
-use Rattle.record.specs.Reads.{Holds, Reads, ReadsAs, verdict_of}
+use Rattle.record.specs.Reads.{Holds, Reads, ReadsAs, verdict_of, Verdict}
 use Rattle.record.specs.Appropriate.{list_accepted, allowed, row_appropriate, appropriate, judged_appropriate, reading_appropriate, Listed, Typed}
 
 -- The list.
@@ -104,9 +103,6 @@ module _ {t list ws : List ℕ} {v kind : ℕ} where
     row-kind = subst (λ (i : ℕ). i < 64) (sym before.kind-is) (before.typed.typed v before.inside).type
 
     module _ (more : k < row_end ws v) where
-      pub row-place : k < length ws
-      row-place = omega (arith, (before.typed.sound.shaped.node v before.inside).ended)
-
       pub row-feature : feature_at ws k < 64
       row-feature = before.typed.sound.shaped.known v k before.inside before.low more
 
@@ -220,7 +216,7 @@ module _ (n : ℕ) (t list bytes : List ℕ) where
 
   module _ {ws : List ℕ} {v : Verdict} (reads : Reads n bytes v ws) where
     tells-refused : (fault : GraphFault) → reading_appropriate n t list bytes ≡ refused fault →
-        ReadsAs n (reading_appropriate n t list bytes) (Refused fault) ws
+        ReadsAs n (reading_appropriate n t list bytes) (Err fault) ws
     tells-refused fault e =
         record {
           verdict = ap verdict_of (sym e);
@@ -230,17 +226,17 @@ module _ (n : ℕ) (t list bytes : List ℕ) where
         }
 
     -- 4 to 7
-    pub reads-refused : (fault : GraphFault) → v ≡ Refused fault → ReadsAs n (reading_appropriate n t list bytes) (Refused fault) ws
+    pub reads-refused : (fault : GraphFault) → v ≡ Err fault → ReadsAs n (reading_appropriate n t list bytes) (Err fault) ws
     reads-refused fault e = tells-refused fault (refused-appropriate fault (go (reading n bytes) refl))
       where
         go : (o : Reading) → reading n bytes ≡ o → reading n bytes ≡ refused fault
         go (refused other) q =
-            let h : ◌≡◌ {A = Verdict} (Refused other) (Refused fault) = sym (reads.verdict ∙ ap verdict_of q) ∙ e in
+            let h : ◌≡◌ {A = Verdict} (Err other) (Err fault) = sym (reads.verdict ∙ ap verdict_of q) ∙ e in
             let k : other ≡ fault = cc in
             q ∙ ap refused k
         go (accepted rows) q = let z : ◌≡◌ {A = ℕ} 0 1 = cc (reads.verdict, ap verdict_of q) in absurd (omega arith)
 
-    module _ (e : v ≡ Accepted) where
+    module _ (e : v ≡ Ok tt) where
       -- the words hold the rows that were read
       record Held : Type 0 where
         pub is : reading n bytes ≡ accepted (rows_of ws)
@@ -262,12 +258,12 @@ module _ (n : ℕ) (t list bytes : List ℕ) where
       reads-typed few = record { sound = held.holds.sound; typed = λ u h. known_more few (held.holds.typed u h) }
 
       -- 18
-      pub reads-inappropriate : appropriate t list (rows_of ws) ≡ false → ReadsAs n (reading_appropriate n t list bytes) (Refused Inappropriate) ws
+      pub reads-inappropriate : appropriate t list (rows_of ws) ≡ false → ReadsAs n (reading_appropriate n t list bytes) (Err Inappropriate) ws
       reads-inappropriate never =
           tells-refused Inappropriate
           (judged-appropriate (rows_of ws) held.is ∙ ap (λ (b : Bool). cond b (accepted (rows_of ws)) (refused Inappropriate)) never)
 
-      pub reads-appropriate : appropriate t list (rows_of ws) ≡ true → ReadsAs n (reading_appropriate n t list bytes) Accepted ws
+      pub reads-appropriate : appropriate t list (rows_of ws) ≡ true → ReadsAs n (reading_appropriate n t list bytes) (Ok tt) ws
       reads-appropriate obeys =
           let is : reading_appropriate n t list bytes ≡ accepted (rows_of ws) =
           judged-appropriate (rows_of ws) held.is ∙ ap (λ (b : Bool). cond b (accepted (rows_of ws)) (refused Inappropriate)) obeys in

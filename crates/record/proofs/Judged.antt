@@ -5,17 +5,18 @@ use mathlib.Core.List.{List}
 use mathlib.Core.Option.{some}
 use Prim.Native.Nat.{ℕ, ◌≤◌}
 use native.Mathlib.Omega.{arith}
+use Rattle.std.specs.Prelude.{⊤, Result, Ok, Err}
 use Rattle.graphs.specs.Rows.{Row}
 use Rattle.graphs.proofs.Search.{not-true-false}
 use Rattle.lattice.specs.Label.{Label}
 use Rattle.layout.specs.Layout.{size, label_at, rows_of, Shaped, Sound}
-use Rattle.peeling.specs.declared.Shape.{Shape}
-use Rattle.peeling.specs.declared.Shape.TheVariants as shapes
+use Rattle.peeling.specs.declared.Unrooted.{Unrooted}
+use Rattle.peeling.specs.declared.Unrooted.TheVariants as unrooted
 use Rattle.peeling.specs.Counts.{Count, Counted, Peels, Ranged}
 use Rattle.peeling.proofs.Range.{label-in-range}
 use Rattle.record.specs.declared.GraphFault.{GraphFault}
 use Rattle.record.specs.declared.GraphFault.TheVariants.{OutOfRange, Cyclic, Unreached}
-use Rattle.record.specs.declared.reading.Verdict.TheVariants.{Accepted, Refused}
+use Rattle.record.specs.Faults.{fault_of}
 use Rattle.record.specs.Read.{Reading, refused, accepted, judged, in_range, cyclic, reaches_all}
 use Rattle.record.specs.Reads.{ReadsAs, verdict_of}
 use Rattle.record.proofs.Readings.{in-range}
@@ -24,7 +25,7 @@ use Rattle.record.proofs.Reaching.{cyclic-exact}
 use Rattle.record.proofs.Words.{ranged-rows, rows-ranged, ranged-linked, looped-rows, sorted-rows, apart-unreached, entered-reaches}
 
 -- a refusal promises nothing about the words
-pub refuses : (n : ℕ) (o : Reading) (ws : List ℕ) (fault : GraphFault) → o ≡ refused fault → ReadsAs n o (Refused fault) ws
+pub refuses : (n : ℕ) (o : Reading) (ws : List ℕ) (fault : GraphFault) → o ≡ refused fault → ReadsAs n o (Err fault) ws
 refuses n o ws fault e =
     record {
       verdict = ap verdict_of (sym e);
@@ -43,7 +44,7 @@ module _ (n : ℕ) {ws : List ℕ} (shaped : Shaped ws) (small : size ws ≤ 255
 
   -- 5
   pub out_of_range : {passed : Bool} {incoming : List ℕ} → Count n ws passed incoming → passed ≡ false →
-      ReadsAs n (judged n (some own)) (Refused OutOfRange) ws
+      ReadsAs n (judged n (some own)) (Err OutOfRange) ws
   out_of_range count fails =
       refuses n (judged n (some own)) ws OutOfRange
       (ap (λ (b : Bool). cond b later (refused OutOfRange))
@@ -72,29 +73,33 @@ module _ (n : ℕ) {ws : List ℕ} (shaped : Shaped ws) (small : size ws ≤ 255
     judged-acyclic e =
         judged-later ∙ ap (λ (b : Bool). cond b (refused Cyclic) (cond (reaches_all own) (accepted own) (refused Unreached))) e
 
-    module _ {shape : Shape} (peels : Peels ws shape) where
+    module _ {answer : Result ⊤ Unrooted} (peels : Peels ws answer) where
       -- 6
-      pub with-cycle : shape ≡ shapes.Cyclic → ReadsAs n (judged n (some own)) (Refused Cyclic) ws
+      with-cycle : answer ≡ Err unrooted.Cyclic → ReadsAs n (judged n (some own)) (Err Cyclic) ws
       with-cycle e =
           let (v, loop) = peels.cyclic-stands e in
           let found : cyclic own ≡ true = (cyclic-exact own rows-linked).1 (looped-rows sound v loop) in
           refuses n (judged n (some own)) ws Cyclic
           (judged-later ∙ ap (λ (b : Bool). cond b (refused Cyclic) (cond (reaches_all own) (accepted own) (refused Unreached))) found)
 
-      no-cycle : (shape ≡ shapes.Cyclic → ⊥) → cyclic own ≡ false
+      no-cycle : (answer ≡ Err unrooted.Cyclic → ⊥) → cyclic own ≡ false
       no-cycle other =
           let (place, sorted) = peels.sorted other in
           not-true-false (cyclic own) (λ e. sorted-rows sound sorted ((cyclic-exact own rows-linked).0 e))
 
       -- 7
-      pub unreached : shape ≡ shapes.Apart → ReadsAs n (judged n (some own)) (Refused Unreached) ws
+      unreached : answer ≡ Err unrooted.Apart → ReadsAs n (judged n (some own)) (Err Unreached) ws
       unreached e =
           let (w, positive, inside, apart) = peels.apart-stands e in
           refuses n (judged n (some own)) ws Unreached
           (judged-acyclic (no-cycle λ q. let z : ◌≡◌ {A = ℕ} 0 1 = cc in omega arith)
           ∙ ap (λ (b : Bool). cond b (accepted own) (refused Unreached)) (apart-unreached sound rows-linked positive inside apart))
 
-      pub accepts : shape ≡ shapes.Rooted → ReadsAs n (judged n (some own)) Accepted ws
+      pub refused-unrooted : (why : Unrooted) → answer ≡ Err why → ReadsAs n (judged n (some own)) (Err (fault_of why)) ws
+      refused-unrooted unrooted.Cyclic e = with-cycle e
+      refused-unrooted unrooted.Apart e = unreached e
+
+      pub accepts : answer ≡ Ok tt → ReadsAs n (judged n (some own)) (Ok tt) ws
       accepts e =
           record {
             verdict = ap verdict_of (sym is);
@@ -107,7 +112,7 @@ module _ (n : ℕ) {ws : List ℕ} (shaped : Shaped ws) (small : size ws ≤ 255
                 };
           }
         where
-          other : shape ≡ shapes.Cyclic → ⊥
+          other : answer ≡ Err unrooted.Cyclic → ⊥
           other q = let z : ◌≡◌ {A = ℕ} 0 1 = cc in omega arith
 
           reached : reaches_all own ≡ true

@@ -9,6 +9,7 @@ use native.Mathlib.Omega.{arith}
 use borrow.Author.Tests.{eqb-true, not-false}
 use lib.Dec.{eqb}
 use lib.ListN.{length}
+use Rattle.std.specs.Prelude.{Err}
 use Rattle.graphs.specs.Rows.{Row}
 use Rattle.graphs.proofs.Search.{true-false}
 use Rattle.lattice.specs.Label.{Label, plain}
@@ -19,10 +20,8 @@ use Rattle.decode.specs.Answers.{Held, Parses}
 use Rattle.decode.proofs.Decoded.{Decoded, decoded-says}
 use Rattle.peeling.specs.Counts.{LevelsOrdered}
 use Rattle.record.specs.declared.GraphFault.TheVariants.{Malformed}
-use Rattle.record.specs.declared.reading.Verdict.{Verdict}
-use Rattle.record.specs.declared.reading.Verdict.TheVariants.{Refused}
 use Rattle.record.specs.Read.{Reading, judged, reading}
-use Rattle.record.specs.Reads.{Reads, ReadsAs, unranged_length}
+use Rattle.record.specs.Reads.{Reads, ReadsAs, unranged_length, Verdict}
 use Rattle.record.proofs.Judged.{refuses}
 use Rattle.record.proofs.Words.{held-length}
 
@@ -33,7 +32,7 @@ reading-judged n bytes o e = ap (judged n) e
 
 module _ {bytes : List ℕ} {ws : List ℕ} {parsed : Bool} (parses : Parses bytes parsed ws) where
   -- 4
-  pub malformed : (n : ℕ) → parsed ≡ false → Reads n bytes (Refused Malformed) ws
+  pub malformed : (n : ℕ) → parsed ≡ false → Reads n bytes (Err Malformed) ws
   malformed n no_record = refuses n (reading n bytes) ws Malformed (reading-judged n bytes none (go (decoded bytes) refl))
     where
       go : (o : Option (List (Row Label))) → decoded bytes ≡ o → decoded bytes ≡ none

@@ -1,20 +1,23 @@
 -- This file says what the functions promise that read a record into words: the verdict, and after an acceptance the graph in the words.
 -- The crates that compute on graphs ask for words that are `Loaded`.
-use Rattle.std.specs.Prelude.{◌≡◌, List, ℕ, ◌+◌, ◌*◌, ◌≤◌, ◌<◌}
+use Rattle.std.specs.Prelude.{◌≡◌, List, ℕ, ⊤, Result, Ok, Err, ◌+◌, ◌*◌, ◌≤◌, ◌<◌}
 use Rattle.graphs.specs.Rows.{Row}
 use Rattle.graphs.specs.Large.{links_in}
 use Rattle.lattice.specs.Label.{Label}
 use Rattle.lattice.specs.Labels.{Known}
 use Rattle.layout.specs.Layout.{size, label_at, rows_of, Sound}
 use Rattle.encoder.specs.Encode.{encoded}
-use Rattle.record.specs.declared.reading.Verdict.{Verdict}
-use Rattle.record.specs.declared.reading.Verdict.TheVariants.{Accepted, Refused}
+use Rattle.record.specs.declared.GraphFault.{GraphFault}
 use Rattle.record.specs.Read.{Reading, refused, accepted, reading}
+
+-- what the functions that read a record answer: the record is accepted, or its refusal
+abbrev pub Verdict : Type 0
+Verdict = Result ⊤ GraphFault
 
 -- the verdict that a reading gives
 abbrev pub verdict_of : Reading → Verdict
-verdict_of (refused fault) = Refused fault
-verdict_of (accepted rows) = Accepted
+verdict_of (refused fault) = Err fault
+verdict_of (accepted rows) = Ok tt
 
 -- The words hold the given rows, over a table with n types.
 pub record Holds (n : ℕ) (rows : List (Row Label)) (ws : List ℕ) : Type 0 where

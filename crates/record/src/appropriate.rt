@@ -8,7 +8,6 @@ ghost use Rattle.record.specs.Appropriate.{list_accepted, row_appropriate, appro
 ghost use Rattle.record.specs.Reads.{ReadsAs};
 
 use crate::GraphFault;
-use crate::reading::Verdict;
 
 // Whether a list has 64 entries, each of them one of the n types.
 pub fn is_list_accepted(n: usize, list: &[u8]) -> bool
@@ -17,12 +16,10 @@ pub fn is_list_accepted(n: usize, list: &[u8]) -> bool
     if list.len() != 64 {
         return false;
     }
-    let mut f = 0;
-    while f < 64 {
-        if n <= list[f] as usize {
+    for entry in list {
+        if n <= *entry as usize {
             return false;
         }
-        f += 1;
     }
     true
 }
@@ -35,14 +32,11 @@ fn is_row_appropriate(table: &[u8], list: &[u8], graph: &[u16], v: usize) -> boo
 {
     let label = layout::label_at(graph, v);
     let kind = label.kind as usize;
-    let end = graph[v + 2] as usize;
-    let mut k = layout::links_from(graph, v);
-    while k < end {
-        let f = layout::feature(graph[k]) as usize;
+    for link in layout::links(graph, v) {
+        let f = layout::feature(*link) as usize;
         if !lattice::words::is_below(table, kind, list[f] as usize) {
             return false;
         }
-        k += 1;
     }
     true
 }
@@ -54,31 +48,30 @@ fn is_appropriate(table: &[u8], list: &[u8], graph: &[u16]) -> bool
     ensures { result ≡ appropriate table.now list.now (rows_of graph.now) }
 {
     let nodes = graph[0] as usize;
-    let mut v = 0;
-    while v < nodes {
+    for v in 0..nodes {
         if !is_row_appropriate(table, list, graph, v) {
             return false;
         }
-        v += 1;
     }
     true
 }
 
 // Reads a record over a table with n types, beside an accepted list, into the lent words. What the words hold after a refusal is not
 // specified.
-pub fn read(n: usize, table: &[u8], list: &[u8], bytes: &[u8], graph: &mut [u16]) -> Verdict
+pub fn read(
+    n: usize,
+    table: &[u8],
+    list: &[u8],
+    bytes: &[u8],
+    graph: &mut [u16],
+) -> Result<(), GraphFault>
     requires n_bound { (n ≤ 64) × (list_accepted n list.now ≡ true) }
     requires roomy { Roomy bytes.now graph.old }
     ensures { ReadsAs n (reading_appropriate n table.now list.now bytes.now) result graph.new }
 {
-    let verdict = crate::reading::read(n, bytes, graph);
-    match verdict {
-        Verdict::Refused(fault) => Verdict::Refused(fault),
-        Verdict::Accepted => {
-            if !is_appropriate(table, list, graph) {
-                return Verdict::Refused(GraphFault::Inappropriate);
-            }
-            Verdict::Accepted
-        }
+    crate::reading::read(n, bytes, graph)?;
+    if !is_appropriate(table, list, graph) {
+        return Err(GraphFault::Inappropriate);
     }
+    Ok(())
 }

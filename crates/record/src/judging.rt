@@ -9,22 +9,17 @@ ghost use Rattle.record.specs.Read.{judged};
 ghost use Rattle.record.specs.Reads.{ReadsAs};
 
 use crate::GraphFault;
-use crate::reading::Verdict;
-use peeling::Shape;
 
 // Judges a graph over a table with n types. Levels are compared only if `ranged` says that there are ranges.
-pub fn judge(n: usize, graph: &[u16], ranged: bool) -> Verdict
+pub fn judge(n: usize, graph: &[u16], ranged: bool) -> Result<(), GraphFault>
     requires shaped { Shaped graph.now × (size graph.now ≤ 255) }
     requires levels_ordered { ranged ≡ false → LevelsOrdered graph.now }
     ensures { ReadsAs n (judged n (some (rows_of graph.now))) result graph.now }
 {
     let mut incoming = [0u16; 255];
     if !peeling::count_incoming(n, graph, ranged, &mut incoming) {
-        return Verdict::Refused(GraphFault::OutOfRange);
+        return Err(GraphFault::OutOfRange);
     }
-    match peeling::sources_first(graph, &mut incoming) {
-        Shape::Cyclic => Verdict::Refused(GraphFault::Cyclic),
-        Shape::Apart => Verdict::Refused(GraphFault::Unreached),
-        Shape::Rooted => Verdict::Accepted,
-    }
+    peeling::sources_first(graph, &mut incoming)?;
+    Ok(())
 }

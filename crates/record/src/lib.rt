@@ -4,16 +4,32 @@
 
 #![tactic(auto)]
 
+ghost use Rattle.std.specs.Prelude.{◌≡◌};
+ghost use Rattle.record.specs.Faults.{fault_of};
+
+use peeling::Unrooted;
+
 pub mod appropriate;
 pub mod judging;
 pub mod reading;
 
-// Why a record is refused: document 01's refusals 4 to 7 in turn, and last document 02's 18, for a graph with a link that a list forbids.
+// Why a record is refused, by the numbers of document 01's refusals, and of document 02's 18, for a graph with a link that a list forbids.
 #[derive(Clone, Copy)]
 pub enum GraphFault {
-    Malformed,
-    OutOfRange,
-    Cyclic,
-    Unreached,
-    Inappropriate,
+    Malformed = 4,
+    OutOfRange = 5,
+    Cyclic = 6,
+    Unreached = 7,
+    Inappropriate = 18,
+}
+
+impl From<Unrooted> for GraphFault {
+    ghost from_gives = { λ unrooted fault. fault ≡ fault_of unrooted };
+
+    fn from(unrooted: Unrooted) -> GraphFault {
+        match unrooted {
+            Unrooted::Cyclic => GraphFault::Cyclic,
+            Unrooted::Apart => GraphFault::Unreached,
+        }
+    }
 }

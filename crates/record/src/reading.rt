@@ -7,13 +7,6 @@ ghost use Rattle.record.specs.Reads.{Reads, unranged_length};
 
 use crate::GraphFault;
 
-// What reading a record answers: it is accepted, or why it is refused.
-#[derive(Clone, Copy)]
-pub enum Verdict {
-    Accepted,
-    Refused(GraphFault),
-}
-
 // Whether a record of the given length that states the graph writes a range. Each written range takes two bytes more.
 fn has_ranges(length: usize, graph: &[u16]) -> bool
     requires { Shaped graph.now }
@@ -26,12 +19,12 @@ fn has_ranges(length: usize, graph: &[u16]) -> bool
 }
 
 // Reads a record over a table with n types into the lent words. What the words hold after a refusal is not specified.
-pub fn read(n: usize, bytes: &[u8], graph: &mut [u16]) -> Verdict
+pub fn read(n: usize, bytes: &[u8], graph: &mut [u16]) -> Result<(), GraphFault>
     requires { Roomy bytes.now graph.old }
     ensures { Reads n bytes.now result graph.new }
 {
     if !decode::rows::parse(bytes, graph) {
-        return Verdict::Refused(GraphFault::Malformed);
+        return Err(GraphFault::Malformed);
     }
     let ranged = has_ranges(bytes.len(), graph);
     crate::judging::judge(n, graph, ranged)

@@ -8,7 +8,7 @@ use lib.Dec.{eqb, ltb}
 use Rattle.replies.specs.declared.Side.TheVariants.{First, Second}
 use Rattle.replies.specs.declared.answers.Answer.{Answer}
 use Rattle.replies.specs.declared.answers.Answer.TheVariants.{Length, Same, Under, Above, Neither, Counts, End, Refused, RefusedGraph}
-use Rattle.replies.specs.declared.Reply.{Reply}
+use Rattle.replies.specs.Replies.{Reply}
 use Rattle.replies.specs.Reply.{answer_of, Bounded, Counted}
 use Rattle.replies.proofs.Numbers.{number_in, number_small, answer-injective, answer-bounded, answer-counted}
 use Rattle.record_engine.specs.Code.{code_for, code_of, counts_code}

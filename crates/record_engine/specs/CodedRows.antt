@@ -1,5 +1,5 @@
 -- What the exported calls over lent rows yield: the code of a reply, and what the rows and node bytes hold at the end.
-use Rattle.std.specs.Prelude.{◌≡◌, List, ◌++◌, ℕ, length, take, drop}
+use Rattle.std.specs.Prelude.{List, ℕ}
 use Rattle.rows.specs.declared.Row as lent
 use Rattle.planning.specs.Planning.{Exported}
 use Rattle.record_engine.specs.Code.{code_of}
@@ -17,8 +17,3 @@ yielding_rows answer rows nodes = record { answer = answer; rows = rows; nodes =
 -- The code of export's reply, with the rows and node bytes.
 abbrev pub coded_rows : Exported → YieldRows
 coded_rows result = yielding_rows (code_of result.reply) result.rows result.nodes
-
--- Whichever `room` rows are lent, storing the first `count` rows of `at` there gives the export.
-abbrev pub Stores : (List lent.Row → Exported) → ℕ → ℕ → ℕ → List lent.Row → List ℕ → Type 0
-Stores export room answer count at nodes =
-    (rows : List lent.Row) → length rows ≡ room → yielding_rows answer (take count at ++ drop count rows) nodes ≡ coded_rows (export rows)

@@ -1,15 +1,14 @@
 -- Replies: the number that documents 01 ("Returned by a call") and 02 give to each refusal, and a reply with the output beside it.
-use Rattle.std.specs.Prelude.{◌≡◌, List, ℕ, ◌≤◌}
+use Rattle.std.specs.Prelude.{◌≡◌, List, ℕ, ◌≤◌, Ok, Err}
 use Rattle.std.proofs.Math.Option.{Option, none, some}
 use Rattle.acceptance.specs.Reply.{table_number}
-use Rattle.encode.specs.declared.Written.{Written}
-use Rattle.encode.specs.declared.Written.TheVariants as written
-use Rattle.encode.specs.Encode.{Outcome}
+use Rattle.encode.specs.declared.Unwritten.TheVariants as unwritten
+use Rattle.encode.specs.Encode.{Outcome, Writing}
 use Rattle.record.specs.Read.{graph_number}
 use Rattle.replies.specs.declared.answers.Answer.{Answer}
 use Rattle.replies.specs.declared.answers.Answer.TheVariants as answer
-use Rattle.replies.specs.declared.Reply.{Reply}
-use Rattle.replies.specs.declared.Reply.TheVariants.{Length, Same, Under, Above, Neither, Counts, End, Table, Graph, NoRoom, Cycle, Clash, TooLarge, NotBelow, NoWantedType, RowOutOfRange, RowTwice, NothingGathered, TypeList, ReadingOrder, WrongVersion, NoStoreRoom, NoReasonRoom, FeatureCount, NotListed}
+use Rattle.replies.specs.Replies.{Reply}
+use Rattle.replies.specs.Replies.{Length, Same, Under, Above, Neither, Counts, End, Table, Graph, NoRoom, Cycle, Clash, TooLarge, NotBelow, NoWantedType, RowOutOfRange, RowTwice, NothingGathered, TypeList, ReadingOrder, WrongVersion, NoStoreRoom, NoReasonRoom, FeatureCount, NotListed}
 
 -- What a reply tells. A refusal has a number, and a refusal of a graph also tells which of the two graphs it is.
 abbrev pub answer_of : Reply → Answer
@@ -89,10 +88,10 @@ abbrev pub resulting : Reply → List ℕ → Result
 resulting r out = record { reply = r; output = out }
 
 -- The reply that tells the answer of writing.
-abbrev pub reply_of : Written → Reply
-reply_of (written.Length l) = Length l
-reply_of written.TooLarge = TooLarge
-reply_of written.NoRoom = NoRoom
+abbrev pub reply_of : Writing → Reply
+reply_of (Ok l) = Length l
+reply_of (Err unwritten.TooLarge) = TooLarge
+reply_of (Err unwritten.NoRoom) = NoRoom
 
 -- The result of a call that ends in writing.
 abbrev pub result_of : Outcome → Result

@@ -9,6 +9,7 @@ use native.Mathlib.Omega.{arith}
 use borrow.Author.Tests.{leb-true}
 use lib.Dec.{eqb, leb}
 use lib.ListN.{length, drop, replicate, length-append, length-replicate, length-take}
+use Rattle.std.specs.Prelude.{Ok, Err}
 use Rattle.graphs.specs.Rows.{Row, from}
 use Rattle.graphs.specs.Number.{Canonical, canonical, many_nodes, many_links, written}
 use Rattle.graphs.specs.Order.{subsumes}
@@ -18,20 +19,19 @@ use Rattle.graphs.specs.Unify.{Unified, cycle, clash, unified, unification}
 use Rattle.graphs.specs.OfRows.{same_pair, same_either}
 use Rattle.graphs.proofs.Walk.{none-some}
 use Rattle.lattice.specs.Label.{Label}
-use Rattle.acceptance.specs.declared.Opened.{Opened}
-use Rattle.acceptance.specs.declared.Opened.TheVariants as opened
+use Rattle.acceptance.specs.Reply.{TableAnswer}
 use Rattle.acceptance.specs.Reply as table
 use Rattle.lattice.specs.Labels.{table_labels}
 use Rattle.record.specs.Read as graph
 use Rattle.encoder.specs.Encode.{encoded}
 use Rattle.encode.specs.Encode.{fitted, written_out}
-use Rattle.encode.specs.declared.Written.TheVariants as outcome
+use Rattle.encode.specs.declared.Unwritten.TheVariants as unwritten
 use Rattle.replies.specs.declared.Side.{Side}
 use Rattle.replies.specs.declared.Side.TheVariants.{First, Second}
 use Rattle.replies.specs.declared.answers.Answer.{Answer}
 use Rattle.replies.specs.declared.answers.Answer.TheVariants as answer
-use Rattle.replies.specs.declared.Reply.{Reply}
-use Rattle.replies.specs.declared.Reply.TheVariants.{Table, Graph, NoRoom, Cycle, Clash, TooLarge, NotBelow, NoWantedType}
+use Rattle.replies.specs.Replies.{Reply}
+use Rattle.replies.specs.Replies.{Table, Graph, NoRoom, Cycle, Clash, TooLarge, NotBelow, NoWantedType}
 use Rattle.replies.specs.Reply.{Result, Bounded, answer_of, refusal, refusing, result_of}
 use Rattle.subsume.specs.Promise.{rows_below}
 use Rattle.calls.specs.Calls.{checked, generalizing, ordering, unifying, differing}
@@ -57,9 +57,9 @@ refused-bounded r number q most l e = absurd (none-some (sym (ap refusal e) ∙ 
 -- A property holds for a call if it holds for every refusal and for what the call does over accepted graphs.
 module _ {X : Type 0} (refuse : Reply → X) (good : X → Type 0) (refused-good : (r : Reply) → ((most : ℕ) → Bounded r most) → good (refuse r))
   where
-    checked-good : (o : Opened) (next : X) → good next → good (checked refuse o next)
-    checked-good (opened.Refused fault) next h = refused-good (Table fault) (refused-bounded (Table fault) _ refl)
-    checked-good opened.Accepted next h = h
+    checked-good : (o : TableAnswer) (next : X) → good next → good (checked refuse o next)
+    checked-good (Err fault) next h = refused-good (Table fault) (refused-bounded (Table fault) _ refl)
+    checked-good (Ok tt) next h = h
 
     both-good : (x y : graph.Reading) (next : List (Row Label) → List (Row Label) → X) → ((g h : List (Row Label)) → good (next g h)) →
         good (read_both refuse x y next)
@@ -79,8 +79,8 @@ fitted-bounded bytes out = go (leb (length bytes) (length out)) refl
   where
     go : (b : Bool) → leb (length bytes) (length out) ≡ b →
         Bounded (result_of (cond b
-        (record { answer = outcome.Length (length bytes); output = bytes ++ drop (length bytes) out })
-        (record { answer = outcome.NoRoom; output = out }))).reply (length out)
+        (record { answer = Ok (length bytes); output = bytes ++ drop (length bytes) out })
+        (record { answer = Err unwritten.NoRoom; output = out }))).reply (length out)
     go true h = λ l e. let same : length bytes ≡ l = cc in omega (arith, leb-true (length bytes) (length out) h)
     go false h = refused-bounded NoRoom 8 refl (length out)
 

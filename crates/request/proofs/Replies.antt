@@ -9,13 +9,13 @@ use lib.ListN.{length, drop, set, replicate, length-append, length-replicate}
 use lib.Seq.{sets-eq}
 use Rattle.replies.specs.declared.Side.{Side}
 use Rattle.replies.specs.declared.answers.Answer.{Answer}
-use Rattle.replies.specs.declared.Reply.{Reply}
+use Rattle.replies.specs.Replies.{Reply}
 use Rattle.replies.specs.Reply.{Result, resulting}
 use Rattle.request.specs.declared.Printed.{Printed}
 use Rattle.request.specs.declared.parse.Operation.{Operation}
-use Rattle.request.specs.declared.parse.Parts.{Parts}
+use Rattle.request.specs.declared.parse.Asked.{Asked}
 use Rattle.request.specs.Request.{Request, requested}
-use Rattle.request.specs.Parse.{between, request_at}
+use Rattle.request.specs.Parse.{request_of}
 use Rattle.text.specs.Text.{Puts}
 use Rattle.request.specs.Line.{answered, answering, ended, answer_text, line_for, line_of, printed, reply_text, side_text, text_of}
 use Rattle.request.specs.Words.{words_for}
@@ -39,14 +39,11 @@ pub answers_by : {operation o : Operation} (n : ℕ) (t a b out : List ℕ) {r :
     resulting r new ≡ answering o n t a b out → resulting r new ≡ answering operation n t a b out
 answers_by n t a b out e h = h ∙ ap (λ (o : Operation). answering o n t a b out) (sym e)
 
--- the call on the parts of the input
-pub answered-is : (input : List ℕ) (operation : Operation) (parts : Parts) {t a b : List ℕ} →
-    t ≡ between input parts.table → a ≡ between input parts.first → b ≡ between input parts.second →
-    answering operation parts.n t a b (replicate 4854 0) ≡ answered (request_at input operation parts)
+-- the call that is asked for
+pub answered-is : (asked : Asked) →
+    answering asked.operation asked.n asked.table.now asked.first.now asked.second.now (replicate 4854 0) ≡ answered (request_of asked)
 unfolding answered
-answered-is input operation parts {t} {a} {b} et ea eb =
-    ap (λ (x : List ℕ). answering operation parts.n x a b (replicate 4854 0)) et
-    ∙ ap₂ (λ (x y : List ℕ). answering operation parts.n (between input parts.table) x y (replicate 4854 0)) ea eb
+answered-is asked = refl
 
 -- the words of an equal result
 pub puts-result : {x y : Result} {r : Reply} {output : List ℕ} {at next : ℕ} {old new : List ℕ} → x ≡ y → resulting r output ≡ x →

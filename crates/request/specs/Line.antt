@@ -3,7 +3,7 @@ use Rattle.std.specs.Prelude.{List, [], ◌∷◌, ◌++◌, ℕ, ◌%◌, lengt
 use Rattle.std.proofs.Math.Option.{Option, none, some}
 use Rattle.replies.specs.declared.Side.{Side}
 use Rattle.replies.specs.declared.Side.TheVariants.{First, Second}
-use Rattle.replies.specs.declared.Reply.{Reply}
+use Rattle.replies.specs.Replies.{Reply}
 use Rattle.replies.specs.declared.answers.Answer.{Answer}
 use Rattle.replies.specs.declared.answers.Answer.TheVariants.{Length, Same, Under, Above, Neither, Counts, End, Refused, RefusedGraph}
 use Rattle.replies.specs.Reply.{Result, answer_of, refusing}

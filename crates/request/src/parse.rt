@@ -1,8 +1,12 @@
-// Parses the input of `mapcalc`: finds where its parts stand, or answers that it is bad.
+// Parses the input of `mapcalc`: finds what it asks for, or answers that it is bad.
 
-ghost use Rattle.std.specs.Prelude.{◌≡◌, ◌≤◌, length, drop};
-ghost use Rattle.request.specs.Request.{asked_of, requested, take_record};
-ghost use Rattle.request.specs.Parse.{Inside, Parses, Takes, between};
+ghost use Rattle.std.specs.Prelude.{◌≡◌};
+ghost use Rattle.request.specs.Request.{asked_of, operation_of, requested, take_bytes, take_record};
+ghost use Rattle.request.specs.Parse.{operation_in, request_in, taken};
+
+// The input is bad.
+#[derive(Clone, Copy)]
+pub struct BadInput;
 
 // What is asked for: the common part, the combination, the difference or the order.
 #[derive(Clone, Copy)]
@@ -13,115 +17,83 @@ pub enum Operation {
     Order,
 }
 
-// Where a part of the input starts and ends.
+// What the input asks for: the operation, the number of types, the table and the two records.
 #[derive(Clone, Copy)]
-pub struct Part {
-    pub start: usize,
-    pub end: usize,
-}
-
-// The number of types, and where the table and the records stand.
-#[derive(Clone, Copy)]
-pub struct Parts {
+pub struct Asked<'a> {
+    pub operation: Operation,
     pub n: usize,
-    pub table: Part,
-    pub first: Part,
-    pub second: Part,
+    pub table: &'a [u8],
+    pub first: &'a [u8],
+    pub second: &'a [u8],
 }
 
-// What the input asks for.
-#[derive(Clone, Copy)]
-pub enum Parsed {
-    Bad,
-    Asked(Operation, Parts),
+impl TryFrom<u8> for Operation {
+    type Error = BadInput;
+
+    ghost try_from_gives = { λ byte r. operation_in r ≡ operation_of byte };
+
+    fn try_from(byte: u8) -> Result<Operation, BadInput> {
+        match byte {
+            1 => Ok(Operation::Generalize),
+            2 => Ok(Operation::Unify),
+            3 => Ok(Operation::Difference),
+            4 => Ok(Operation::Order),
+            _ => Err(BadInput),
+        }
+    }
 }
 
-// Where a record of the input stands, or that the input is bad.
-#[derive(Clone, Copy)]
-pub enum Located {
-    Bad,
-    At(Part),
-}
-
-// The record at a place, after its length of 2 bytes.
-fn record_at(input: &[u8], at: usize) -> Located
-    requires { at ≤ length input.now }
-    ensures { Takes (take_record (drop at input.now)) input.now result }
+// The next `count` bytes, and those behind them.
+fn take_bytes(count: usize, bytes: &[u8]) -> Result<(&[u8], &[u8]), BadInput>
+    ensures { taken result ≡ take_bytes count bytes.now }
 {
-    if input.len() - at < 2 {
-        return Located::Bad;
-    }
-    let low = input[at] as usize;
-    let high = input[at + 1] as usize;
-    let length = low + 256 * high;
+    bytes.split_at_checked(count).ok_or(BadInput)
+}
+
+// The next record, after its length of 2 bytes, and the bytes behind it.
+fn take_record(bytes: &[u8]) -> Result<(&[u8], &[u8]), BadInput>
+    ensures { taken result ≡ take_record bytes.now }
+{
+    let [low, high, rest @ ..] = bytes else {
+        return Err(BadInput);
+    };
+    let length = *low as usize + 256 * *high as usize;
     if 8192 < length {
-        return Located::Bad;
+        return Err(BadInput);
     }
-    let start = at + 2;
-    if input.len() - start < length {
-        return Located::Bad;
-    }
-    let end = start + length;
-    Located::At(Part { start, end })
+    take_bytes(length, rest)
 }
 
 // Parses what follows the operation byte.
-fn parse_after(operation: Operation, input: &[u8]) -> Parsed
-    requires { 2 ≤ length input.now }
-    ensures { Parses (asked_of operation (drop 1 input.now)) input.now result }
+fn parse_after(operation: Operation, bytes: &[u8]) -> Result<Asked<'_>, BadInput>
+    ensures { request_in result ≡ asked_of operation bytes.now }
 {
-    let n = input[1] as usize;
-    let table = Part {
-        start: 2,
-        end: 2 + 8 * n,
+    let [n, rest @ ..] = bytes else {
+        return Err(BadInput);
     };
-    if input.len() < table.end {
-        return Parsed::Bad;
+    let n = *n as usize;
+    let (table, records) = take_bytes(8 * n, rest)?;
+    let (first, more) = take_record(records)?;
+    let (second, left) = take_record(more)?;
+    if left.len() != 0 {
+        return Err(BadInput);
     }
-    let read = record_at(input, table.end);
-    let Located::At(first) = read else {
-        return Parsed::Bad;
-    };
-    let next = record_at(input, first.end);
-    let Located::At(second) = next else {
-        return Parsed::Bad;
-    };
-    if second.end != input.len() {
-        return Parsed::Bad;
-    }
-    Parsed::Asked(
+    Ok(Asked {
         operation,
-        Parts {
-            n,
-            table,
-            first,
-            second,
-        },
-    )
+        n,
+        table,
+        first,
+        second,
+    })
 }
 
 // Parses the whole input.
-pub fn parse(input: &[u8]) -> Parsed
-    ensures { Parses (requested input.now) input.now result }
+pub fn parse(input: &[u8]) -> Result<Asked<'_>, BadInput>
+    ensures { request_in result ≡ requested input.now }
 {
-    if input.len() < 2 {
-        return Parsed::Bad;
-    }
-    match input[0] {
-        1 => parse_after(Operation::Generalize, input),
-        2 => parse_after(Operation::Unify, input),
-        3 => parse_after(Operation::Difference, input),
-        4 => parse_after(Operation::Order, input),
-        _ => Parsed::Bad,
-    }
-}
-
-// The bytes of a part.
-pub fn bytes_of(input: &[u8], part: Part) -> &[u8]
-    requires { Inside input.now part }
-    ensures { result.now ≡ between input.now part }
-{
-    let start = part.start;
-    let end = part.end;
-    &input[start..end]
+    let [byte, rest @ ..] = input else {
+        return Err(BadInput);
+    };
+    let operation = Operation::try_from(*byte)?;
+    parse_after(operation, rest)
 }

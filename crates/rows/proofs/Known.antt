@@ -1,13 +1,13 @@
 -- This file is about the test for 14, which goes through the rows one after another.
 use mathlib.Core.Bool.{Bool, true, false, cond}
-use mathlib.Core.Path.{◌≡◌, refl, sym, ◌∙◌, ap, subst}
+use mathlib.Core.Path.{◌≡◌, refl, sym, ◌∙◌, ap}
 use mathlib.Core.List.{List, [], ◌∷◌}
 use Prim.Native.Nat.{ℕ, zero, suc, ◌+◌, ◌<◌, ◌≤◌}
 use native.Mathlib.Numerals.{add-one}
 use native.Mathlib.Omega.{arith}
 use lib.Dec.{ltb}
-use lib.ListN.{length, get_or, take, drop, drop_of_length-le}
-use lib.Seq.{length-take-le, drop-cons, get_or-take}
+use lib.ListN.{length, get_or, drop, drop_of_length-le}
+use lib.Seq.{drop-cons}
 use borrow.Author.Tests.{lt-ltb, le-ltb, ltb-true, ltb-false}
 use Rattle.rows.specs.declared.Row.{Row}
 use Rattle.rows.specs.Rows.{no_row, is_known, all_known}
@@ -27,26 +27,25 @@ module _ (n : ℕ) (r : Row) where
   near h k = simp (le-ltb 63 r.feature h, lt-ltb r.parent n k)
 
 -- all rows are known exactly where those from i on are
-abbrev pub Left : ℕ → ℕ → List Row → ℕ → Type 0
-Left n count all i = all_known n (take count all) ≡ all_known n (drop i (take count all))
+abbrev pub Left : ℕ → List Row → ℕ → Type 0
+Left n rows i = all_known n rows ≡ all_known n (drop i rows)
 
-module _ (n count : ℕ) (all : List Row) (h : count ≤ length all) where
-  at : (i : ℕ) → i < count → drop i (take count all) ≡ get_or all i no_row ∷ drop (suc i) (take count all)
-  at i k = drop-cons (take count all) i no_row (subst (λ (m : ℕ). i < m) (sym (length-take-le count all h)) k) ∙ ap (λ (x : Row). x ∷ drop (suc i) (take count all)) (get_or-take count all i no_row k)
-
+module _ (n : ℕ) (rows : List Row) where
   head : (r : Row) (rs : List Row) (b : Bool) → is_known n r ≡ b → all_known n (r ∷ rs) ≡ cond b (all_known n rs) false
   unfolding all_known
   head r rs b e = ap (λ (t : Bool). cond t (all_known n rs) false) e
 
-  pub stop : (i : ℕ) → Left n count all i → i < count → is_known n (get_or all i no_row) ≡ false → false ≡ all_known n (take count all)
-  stop i l k e = sym (l ∙ ap (all_known n) (at i k) ∙ head (get_or all i no_row) (drop (suc i) (take count all)) false e)
+  pub stop : (i : ℕ) → Left n rows i → i < length rows → is_known n (get_or rows i no_row) ≡ false → false ≡ all_known n rows
+  stop i l k e = sym (l ∙ ap (all_known n) (drop-cons rows i no_row k) ∙ head (get_or rows i no_row) (drop (suc i) rows) false e)
 
-  pub next : (i : ℕ) → Left n count all i → i < count → is_known n (get_or all i no_row) ≡ true → Left n count all (i + 1)
-  next i l k e = l ∙ ap (all_known n) (at i k) ∙ head (get_or all i no_row) (drop (suc i) (take count all)) true e ∙ ap (λ (m : ℕ). all_known n (drop m (take count all))) (sym (add-one i))
+  pub next : (i : ℕ) → Left n rows i → i < length rows → is_known n (get_or rows i no_row) ≡ true → Left n rows (i + 1)
+  next i l k e =
+      l ∙ ap (all_known n) (drop-cons rows i no_row k) ∙ head (get_or rows i no_row) (drop (suc i) rows) true e
+      ∙ ap (λ (m : ℕ). all_known n (drop m rows)) (sym (add-one i))
 
-  pub end : (i : ℕ) → Left n count all i → count ≤ i → true ≡ all_known n (take count all)
+  pub end : (i : ℕ) → Left n rows i → length rows ≤ i → true ≡ all_known n rows
   unfolding all_known
-  end i l k = sym (l ∙ ap (all_known n) (drop_of_length-le (take count all) (subst (λ (m : ℕ). m ≤ i) (sym (length-take-le count all h)) k)))
+  end i l k = sym (l ∙ ap (all_known n) (drop_of_length-le rows k))
 
 -- rows that are all known are known one by one
 pub known-each : (n : ℕ) (rs : List Row) (i : ℕ) → all_known n rs ≡ true → i < length rs → is_known n (get_or rs i no_row) ≡ true
@@ -72,9 +71,7 @@ known-parts n r = go (ltb 63 r.feature) refl (ltb r.parent n) refl
     go false p true q h = (omega (arith, ltb-false 63 r.feature p), ltb-true r.parent n q, ltb-true r.target n h)
 
 -- known rows have places in the table of targets
-pub known-near : (n count : ℕ) (all : List Row) → n ≤ 255 → count ≤ length all → all_known n (take count all) ≡ true → AllNear count all
-known-near n count all few inside e i h =
-    let r : is_known n (get_or all i no_row) ≡ true =
-    sym (ap (is_known n) (get_or-take count all i no_row h)) ∙ known-each n (take count all) i e (subst (λ (m : ℕ). i < m) (sym (length-take-le count all inside)) h) in
-    let (f, p, t) = known-parts n (get_or all i no_row) r in
+pub known-near : (n : ℕ) (rows : List Row) → n ≤ 255 → all_known n rows ≡ true → AllNear rows
+known-near n rows few e i h =
+    let (f, p, t) = known-parts n (get_or rows i no_row) (known-each n rows i e h) in
     (omega arith, f)

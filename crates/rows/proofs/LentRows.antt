@@ -2,20 +2,19 @@
 -- label.
 use mathlib.Core.Path.{◌≡◌, refl, sym, ◌∙◌, ap, ap₂, subst}
 use mathlib.Core.List.{List, [], ◌∷◌, ◌++◌, map, append_assoc, append-nil, map-append}
-use Prim.Native.Nat.{ℕ, zero, suc, ◌+◌, ◌-◌, ◌*◌, ◌≤◌, ◌<◌}
+use Prim.Native.Nat.{ℕ, zero, suc, ◌+◌, ◌-◌, ◌*◌, ◌/◌, ◌%◌, ◌≤◌, ◌<◌}
 use native.Mathlib.Nat.{add-zero}
 use native.Mathlib.Numerals.{add-one}
 use native.Mathlib.Omega.{arith}
-use lib.ListN.{length, get_or, set, take, drop, length-set}
-use lib.Seq.{sets, sets-eq, take-suc-set}
+use lib.ListN.{length, get_or, set, take, drop, length-append, length-drop, length-take}
+use lib.Seq.{sets, sets-eq, get_or-take, get_or-drop}
 use Rattle.graphs.specs.Rows.{Row}
 use Rattle.graphs.specs.Large.{links_in}
-use Rattle.graphs.proofs.Stores.{sets-append}
+use Rattle.graphs.proofs.Stores.{sets-append, sets_more}
 use Rattle.lattice.specs.Label.{Label}
-use Rattle.layout.specs.Layout.{Shaped, header, size, row_from, links_from, row_end, rows_end, label_at, feature_at, target_at, links_between, links_at, rows_from, rows_of}
+use Rattle.layout.specs.Layout.{Shaped, header, scale, size, row_from, links_from, row_end, rows_end, label_at, feature_at, target_at, links_between, links_at, rows_from, rows_of}
 use Rattle.layout.proofs.Spans.{link_at, links-none, links-more}
 use Rattle.layout.proofs.Rows.{length-rows, rows_more}
-use Rattle.layout.proofs.Order.{row_last}
 use Rattle.layout.proofs.Sums.{degree, links-of-more, rows_end_lem}
 use Rattle.rows.specs.declared.Row as lent
 use Rattle.rows.specs.Rows.{filled, lent_link, lent_from, lent_rows, lent_nodes}
@@ -75,43 +74,63 @@ lent_row ws v =
     ∙ ap (λ (u : ℕ). lent_from 0 (rows_from ws 0 v) ++ (map (lent_link u) (links_at ws v) ++ [])) e
     ∙ ap (λ (l : List lent.Row). lent_from 0 (rows_from ws 0 v) ++ l) (append-nil (map (lent_link v) (links_at ws v)))
 
--- The first i rows of `all` are made: those of the links before place k of node v.
-pub record Making (ws : List ℕ) (all : List lent.Row) (i v k : ℕ) : Type 0 where
+-- the words of the links of node v, and word i of them
+abbrev span : List ℕ → ℕ → ℕ → List ℕ
+span ws begin v = take (row_end ws v - begin) (drop begin ws)
+
+module _ (ws : List ℕ) (v i : ℕ) {begin : ℕ} (e : begin ≡ links_from ws v) where
+  pub span-end : row_end ws v ≤ length ws → length (span ws begin v) ≤ i → row_end ws v ≤ links_from ws v + i
+  span-end inside h = omega (arith, length-take (row_end ws v - begin) (drop begin ws), length-drop begin ws)
+
+  module _ (h : i < length (span ws begin v)) where
+    pub span-inside : links_from ws v + i < row_end ws v
+    span-inside = omega (arith, length-take (row_end ws v - begin) (drop begin ws))
+
+    span-at : get_or (span ws begin v) i 0 ≡ get_or ws (links_from ws v + i) 0
+    span-at =
+        get_or-take (row_end ws v - begin) (drop begin ws) i 0 (omega (arith, span-inside)) ∙ get_or-drop begin ws i 0
+        ∙ ap (λ (b : ℕ). get_or ws (b + i) 0) e
+
+    pub span-feature : get_or (span ws begin v) i 0 / scale ≡ feature_at ws (links_from ws v + i)
+    span-feature = ap (λ (w : ℕ). w / scale) span-at
+
+    pub span-target : get_or (span ws begin v) i 0 % scale ≡ target_at ws (links_from ws v + i)
+    span-target = ap (λ (w : ℕ). w % scale) span-at
+
+-- The first i lent rows are made: those of the links before place k of node v. The others stay.
+pub record Making (ws : List ℕ) (old rows : List lent.Row) (i v k : ℕ) : Type 0 where
   pub lendable : Lendable ws
+  pub room : links_in (rows_of ws) ≤ length old
   pub high : v ≤ size ws
   pub low : links_from ws v ≤ k
   pub within : v < size ws → k ≤ row_end ws v
-  pub last : v ≡ size ws → k ≡ links_from ws v
-  pub long : length all ≡ 2048
   pub count : i + row_from ws 0 + header * v + header ≡ k
-  pub rows : take i all ≡ lent_to ws v k
+  pub made : length (lent_to ws v k) ≡ i
+  pub rows_are : rows ≡ sets old 0 (lent_to ws v k)
 
-module _ {ws : List ℕ} where
-  pub making-start : {all : List lent.Row} → Lendable ws → length all ≡ 2048 → Making ws all 0 0 (links_from ws 0)
+module _ {ws : List ℕ} {old : List lent.Row} where
+  pub making-start : Lendable ws → links_in (rows_of ws) ≤ length old → Making ws old old 0 0 (links_from ws 0)
   unfolding rows_from lent_from
-  making-start d long =
+  making-start d enough =
       record {
         lendable = d;
+        room = enough;
         high = omega arith;
         low = omega arith;
         within = λ h. (d.sound.shaped.node 0 h).begun;
-        last = λ e. refl;
-        long = long;
         count = omega arith;
-        rows = sym (lent_none ws 0);
+        made = ap length (lent_none ws 0);
+        rows_are = sym (ap (sets old 0) (lent_none ws 0));
       }
 
-  module _ {all : List lent.Row} {i v k : ℕ} (m : Making ws all i v k) (h : v < size ws) where
+  module _ {rows : List lent.Row} {i v k : ℕ} (m : Making ws old rows i v k) (h : v < size ws) where
     abbrev shaped : Shaped ws
     shaped = m.lendable.sound.shaped
 
     pub making-inside : row_end ws v ≤ length ws
     making-inside = (shaped.node v h).ended
 
-    pub making-before : k ≤ rows_end ws
-    making-before = omega (arith, m.within h, row_last shaped v h)
-
-    pub making-room : k < row_end ws v → i < 2048
+    pub making-room : k < row_end ws v → i < length old
     making-room l =
         let e : v + 1 + (size ws - (v + 1)) ≡ size ws = omega arith in
         let few : links_in (rows_from ws 0 (v + 1)) ≤ links_in (rows_of ws) =
@@ -120,7 +139,7 @@ module _ {ws : List ℕ} where
         omega (
           arith,
           m.count,
-          m.lendable.short,
+          m.room,
           rows_end_lem ws shaped (v + 1) (omega arith),
           ap (λ (n : ℕ). get_or ws n 0) (two v),
         )
@@ -128,59 +147,63 @@ module _ {ws : List ℕ} where
         two : (u : ℕ) → u + 1 + 1 ≡ u + 2
         two u = omega arith
 
-    pub making-feature : k < row_end ws v → feature_at ws k < 64
-    making-feature l = shaped.known v k h m.low l
-
     pub making-target : k < row_end ws v → target_at ws k < 256
     making-target l = omega (arith, m.lendable.sound.targets v k h m.low l, m.lendable.small)
 
     -- place k holds a link, and its row is made
-    pub making-link : {f w : ℕ} → k < row_end ws v → f ≡ feature_at ws k → w ≡ target_at ws k →
-        Making ws (set all i (record { parent = v; feature = f; target = w })) (i + 1) v (k + 1)
-    making-link {f} {w} l p q =
+    pub making-link : {f w n : ℕ} → k < row_end ws v → f ≡ feature_at ws k → w ≡ target_at ws k → n ≡ k + 1 →
+        Making ws old (set rows i (record { parent = v; feature = f; target = w })) (i + 1) v n
+    making-link {f} {w} {n} l p q next =
+        let more : lent_to ws v n ≡ lent_to ws v k ++ (lent_link v (link_at ws k) ∷ []) =
+        ap (lent_to ws v) next ∙ lent-link ws v k m.low (omega (arith, making-inside)) in
         record {
           lendable = m.lendable;
+          room = m.room;
           high = m.high;
           low = omega (arith, m.low);
           within = λ _. omega arith;
-          last = λ e. absurd (omega arith);
-          long = length-set all i (record { parent = v; feature = f; target = w }) ∙ m.long;
           count = omega (arith, m.count);
-          rows =
-              ap (λ (n : ℕ). take n (set all i (record { parent = v; feature = f; target = w }))) (add-one i)
-              ∙ take-suc-set all i (record { parent = v; feature = f; target = w }) (omega (arith, making-room l, m.long))
-              ∙ ap₂ (λ (rs : List lent.Row) (r : lent.Row). rs ++ (r ∷ [])) m.rows
+          made = ap length more ∙ omega (arith, length-append (lent_to ws v k) (lent_link v (link_at ws k) ∷ []), m.made);
+          rows_are =
+              ap₂ (λ (rs : List lent.Row) (r : lent.Row). set rs i r) m.rows_are
               (ap₂ {C = lent.Row} (λ (x y : ℕ). record { parent = v; feature = x; target = y }) p q)
-              ∙ sym (lent-link ws v k m.low (omega (arith, making-inside)));
+              ∙ sym (sets_more (lent_to ws v k) old 0 i (lent_link v (link_at ws k)) (omega (arith, m.made)))
+              ∙ ap (sets old 0) (sym more);
         }
 
     -- place k is the end of the row of node v, and node v + 1 comes next
-    pub making-row : row_end ws v ≤ k → Making ws all i (v + 1) (k + 2)
+    pub making-row : row_end ws v ≤ k → Making ws old rows i (v + 1) (links_from ws (v + 1))
     making-row l =
         let e : k ≡ row_end ws v = omega (arith, m.within h) in
         let begins : row_from ws (v + 1) ≡ row_end ws v = ap (λ (n : ℕ). get_or ws n 0) (two v) in
-        let starts : k + 2 ≡ links_from ws (v + 1) = omega arith in
+        let same : lent_to ws v k ≡ lent_to ws (v + 1) (links_from ws (v + 1)) =
+        ap (lent_to ws v) e ∙ sym (lent_row ws v) ∙ sym (lent_none ws (v + 1)) in
         record {
           lendable = m.lendable;
+          room = m.room;
           high = omega arith;
           low = omega arith;
           within = λ n. omega (arith, (shaped.node (v + 1) n).begun);
-          last = λ _. starts;
-          long = m.long;
           count = omega (arith, m.count);
-          rows =
-              m.rows ∙ ap (lent_to ws v) e ∙ sym (lent_row ws v) ∙ sym (lent_none ws (v + 1)) ∙ ap (lent_to ws (v + 1)) (sym starts);
+          made = ap length (sym same) ∙ m.made;
+          rows_are = m.rows_are ∙ ap (sets old 0) same;
         }
       where
         two : (u : ℕ) → u + 1 + 1 ≡ u + 2
         two u = omega arith
 
-  pub making-done : {all : List lent.Row} {i v k : ℕ} → Making ws all i v k → size ws ≤ v → take (links_in (rows_of ws)) all ≡ lent_rows (rows_of ws)
-  making-done {all} {i} {v} {k} m h =
+  pub making-done : {rows : List lent.Row} {i v : ℕ} → Making ws old rows i v (links_from ws v) → size ws ≤ v → rows ≡ filled (lent_rows (rows_of ws)) old
+  making-done {rows} {i} {v} m h =
       let e : v ≡ size ws = omega (arith, m.high) in
+      let all : lent_to ws v (links_from ws v) ≡ lent_rows (rows_of ws) = lent_none ws v ∙ ap (λ (n : ℕ). lent_from 0 (rows_from ws 0 n)) e in
       let ends : links_in (rows_of ws) ≡ i =
-      omega (arith, m.count, m.last e, rows_end_lem ws m.lendable.sound.shaped (size ws) (omega arith), ap (row_from ws) e) in
-      ap (λ (n : ℕ). take n all) ends ∙ m.rows ∙ ap (lent_to ws v) (m.last e) ∙ lent_none ws v ∙ ap (λ (n : ℕ). lent_from 0 (rows_from ws 0 n)) e
+      omega (arith, m.count, rows_end_lem ws m.lendable.sound.shaped (size ws) (omega arith), ap (row_from ws) e) in
+      let long : length (lent_rows (rows_of ws)) ≡ i = ap length (sym all) ∙ m.made in
+      m.rows_are ∙ ap (sets old 0) all ∙ sets-eq (lent_rows (rows_of ws)) old 0 (omega (arith, m.room))
+      ∙ ap (λ (n : ℕ). lent_rows (rows_of ws) ++ drop n old) (none (length (lent_rows (rows_of ws))))
+    where
+      none : (n : ℕ) → 0 + n ≡ n
+      none n = omega arith
 
 -- Node bytes.
 

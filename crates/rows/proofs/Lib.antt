@@ -1,5 +1,4 @@
 -- These files have the laws of rows and of the loops over them.
-pub mod Laid
 pub mod Known
 pub mod Placed
 pub mod FilledRows

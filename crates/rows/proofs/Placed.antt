@@ -9,9 +9,8 @@ use native.Mathlib.Decide.{ℕ_discrete}
 use native.Mathlib.Omega.{arith}
 use lib.Dec.{eqb}
 use lib.ListN.{length, get_or, set, take, drop, length-set, take-append-drop}
-use native.Mathlib.Nat.{lt_of_lt_of_le, le_of_lt}
 use native.Mathlib.Numerals.{add-one}
-use lib.Seq.{get_or-set_same, get_or-set_other, get_or-take, take-suc, take-take, drop-cons, length-take-le}
+use lib.Seq.{get_or-set_same, get_or-set_other, take-suc, take_all, drop-cons}
 use borrow.Author.Tests.{eqb-true, eq-eqb, ne_eqb}
 use Rattle.rows.specs.declared.Row.{Row}
 use Rattle.rows.specs.Rows.{is_of, target_in, some_of, has_twice}
@@ -159,32 +158,29 @@ pub placed-twice : (xs : List Row) (targets : List ℕ) (r : Row) (ys : List Row
 placed-twice xs targets r ys s n d = twice-end xs r ys (found xs r.parent r.feature (λ e. d (s.told r.parent r.feature n.0 n.1 ∙ ap place_of e)))
 
 -- The loop's invariant: the first i rows are placed.
-module _ (count : ℕ) (all : List Row) (h : count ≤ length all) (d : Row) where
-  pub placed-more : (i : ℕ) (targets : List ℕ) → Placed (take i all) targets → i < count → Near (get_or all i d) → slot (get_or all i d) < length targets → eqb (get_or targets (slot (get_or all i d)) 0) 0 ≡ true → (get_or all i d).target ≤ 255 → Placed (take (i + 1) all) (set targets (slot (get_or all i d)) ((get_or all i d).target + 1))
+module _ (all : List Row) (d : Row) where
+  pub placed-more : (i : ℕ) (targets : List ℕ) → Placed (take i all) targets → i < length all → Near (get_or all i d) → slot (get_or all i d) < length targets → eqb (get_or targets (slot (get_or all i d)) 0) 0 ≡ true → (get_or all i d).target ≤ 255 → Placed (take (i + 1) all) (set targets (slot (get_or all i d)) ((get_or all i d).target + 1))
   placed-more i targets s l n k e small =
-      subst (λ (xs : List Row). Placed xs (set targets (slot (get_or all i d)) ((get_or all i d).target + 1))) (sym (take-suc all i d (lt_of_lt_of_le l h)) ∙ ap (λ (m : ℕ). take m all) (sym (add-one i)))
+      subst (λ (xs : List Row). Placed xs (set targets (slot (get_or all i d)) ((get_or all i d).target + 1))) (sym (take-suc all i d l) ∙ ap (λ (m : ℕ). take m all) (sym (add-one i)))
       (placed-next (take i all) targets (get_or all i d) s n k (eqb-true (get_or targets (slot (get_or all i d)) 0) 0 e) small)
 
-  pub placed-stop : (i : ℕ) (targets : List ℕ) → Placed (take i all) targets → i < count → Near (get_or all i d) → eqb (get_or targets (slot (get_or all i d)) 0) 0 ≡ false → false ≡ not (has_twice (take count all))
+  pub placed-stop : (i : ℕ) (targets : List ℕ) → Placed (take i all) targets → i < length all → Near (get_or all i d) → eqb (get_or targets (slot (get_or all i d)) 0) 0 ≡ false → false ≡ not (has_twice all)
   placed-stop i targets s l n e =
-      ap not (sym (ap has_twice whole ∙ placed-twice (take i all) targets (get_or all i d) (drop (suc i) (take count all)) s n (λ z. off (eq-eqb (get_or targets (slot (get_or all i d)) 0) 0 z))))
+      ap not (sym (ap has_twice whole ∙ placed-twice (take i all) targets (get_or all i d) (drop (suc i) all) s n (λ z. off (eq-eqb (get_or targets (slot (get_or all i d)) 0) 0 z))))
     where
       off : eqb (get_or targets (slot (get_or all i d)) 0) 0 ≡ true → ⊥
       off t = let z : true ≡ false = sym t ∙ e in let w : ◌≡◌ {A = ℕ} 0 1 = cc in omega arith
 
-      inside : i < length (take count all)
-      inside = subst (λ (m : ℕ). i < m) (sym (length-take-le count all h)) l
+      whole : all ≡ take i all ++ get_or all i d ∷ drop (suc i) all
+      whole = sym (take-append-drop i all) ∙ ap (λ (ys : List Row). take i all ++ ys) (drop-cons all i d l)
 
-      whole : take count all ≡ take i all ++ get_or all i d ∷ drop (suc i) (take count all)
-      whole = sym (take-append-drop i (take count all)) ∙ ap₂ (λ (xs ys : List Row). xs ++ ys) (take-take i count all (le_of_lt l)) (drop-cons (take count all) i d inside ∙ ap (λ (x : Row). x ∷ drop (suc i) (take count all)) (get_or-take count all i d l))
-
-  pub placed_end : (i : ℕ) (targets : List ℕ) → Placed (take i all) targets → i ≡ count → (true ≡ not (has_twice (take count all))) × (true ≡ true → Placed (take count all) targets)
+  pub placed_end : (i : ℕ) (targets : List ℕ) → Placed (take i all) targets → length all ≤ i → (true ≡ not (has_twice all)) × (true ≡ true → Placed all targets)
   placed_end i targets s e =
-      let t : Placed (take count all) targets = subst (λ (m : ℕ). Placed (take m all) targets) e s in
+      let t : Placed all targets = subst (λ (xs : List Row). Placed xs targets) (take_all i all e) s in
       (ap not (sym t.once), λ _. t)
 
   -- one turn, from what a call of `place` answers
-  pub placed-again : (i : ℕ) (targets after : List ℕ) (b : Bool) → length targets ≡ 16320 → Placed (take i all) targets → i < count → Near (get_or all i d)
+  pub placed-again : (i : ℕ) (targets after : List ℕ) (b : Bool) → length targets ≡ 16320 → Placed (take i all) targets → i < length all → Near (get_or all i d)
       → (b ≡ eqb (get_or targets (slot (get_or all i d)) 0) 0) × (after ≡ cond b (set targets (slot (get_or all i d)) ((get_or all i d).target + 1)) targets) × ((get_or all i d).target ≤ 255) → b ≡ true → (length after ≡ 16320) × Placed (take (i + 1) all) after
   placed-again i targets after b w s l n e t =
       let made : after ≡ set targets (slot (get_or all i d)) ((get_or all i d).target + 1) = e.1 ∙ ap (λ (c : Bool). cond c (set targets (slot (get_or all i d)) ((get_or all i d).target + 1)) targets) t in (

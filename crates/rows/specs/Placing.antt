@@ -1,6 +1,6 @@
 -- This file says what placing rows in a table of targets promises. The table has a place for each parent and feature: 0 where no row has
 -- both, else the row's target plus 1.
-use Rattle.std.specs.Prelude.{Bool, false, cond, List, ◌≡◌, ℕ, ◌+◌, ◌*◌, ◌<◌, ◌≤◌, eqb, get_or, set}
+use Rattle.std.specs.Prelude.{Bool, false, cond, List, ◌≡◌, ℕ, ◌+◌, ◌*◌, ◌<◌, ◌≤◌, eqb, length, get_or, set}
 use Rattle.std.proofs.Math.Option.{Option, none, some}
 use Rattle.rows.specs.declared.Row.{Row}
 use Rattle.rows.specs.Rows.{target_in, has_twice, no_row}
@@ -29,9 +29,9 @@ pub record Placed (rows : List Row) (targets : List ℕ) : Type 0 where
   pub told : (p f : ℕ) → p < 255 → f < 64 → get_or targets (p * 64 + f) 0 ≡ place_of (target_in rows p f)
   pub low : (k : ℕ) → get_or targets k 0 ≤ 256
 
--- The table has a place for each of the first `count` rows.
-abbrev pub AllNear : ℕ → List Row → Type 0
-AllNear count all = (i : ℕ) → i < count → Near (get_or all i no_row)
+-- The table has a place for each row.
+abbrev pub AllNear : List Row → Type 0
+AllNear rows = (i : ℕ) → i < length rows → Near (get_or rows i no_row)
 
 -- Every place of the table is 0.
 abbrev pub Empty : List ℕ → Type 0

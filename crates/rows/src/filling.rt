@@ -21,18 +21,17 @@ fn label_in(nodes: &[u8], v: usize) -> Label
     }
 }
 
-// Whether the labels of the nodes are such as a record can state: no type has bit 7.
+// Whether the labels of the nodes are such as a record can state: no type has bit 7. The loop goes by nodes and not by `chunks_exact`, since
+// `label_in` reads the three bytes of a label here and in `fill_row`.
 pub fn are_stated(nodes: &[u8]) -> bool
     ensures { Labelled nodes.now result }
 {
     let count = nodes.len() / 3;
-    let mut v = 0;
-    while v < count {
+    for v in 0..count {
         let label = label_in(nodes, v);
         if 127 < label.kind {
             return false;
         }
-        v += 1;
     }
     true
 }
@@ -53,14 +52,12 @@ fn fill_row<'a>(
     let label = label_in(nodes, v);
     layout::put_label(graph, at, label);
     let mut next = at + layout::HEADER;
-    let mut f: u16 = 0;
-    while f < 64 {
+    for f in 0..64u16 {
         let cell = targets[v * 64 + f as usize];
         if cell != 0 {
             graph[next] = layout::link(f, cell - 1);
             next += 1;
         }
-        f += 1;
     }
     next
 }
@@ -78,11 +75,9 @@ pub fn fill<'a>(
     let count = nodes.len() / 3;
     let mut at = count + 2;
     graph[1] = at as u16;
-    let mut v = 0;
-    while v < count {
+    for v in 0..count {
         at = fill_row(nodes, targets, v, at, graph);
         graph[v + 2] = at as u16;
-        v += 1;
     }
     graph[0] = count as u16;
 }

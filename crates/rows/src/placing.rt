@@ -1,7 +1,7 @@
 // Tests rows for refusals 14 and 15 (document 02, Paper 2), and makes the table of targets. This table has a place for each parent and
 // feature: 0 where no row has both, else the row's target plus 1.
 
-ghost use Rattle.std.specs.Prelude.{◌≡◌, true, not, ◌≤◌, take, length};
+ghost use Rattle.std.specs.Prelude.{◌≡◌, true, not, length};
 ghost use Rattle.rows.specs.Rows.{is_known, all_known, has_twice};
 ghost use Rattle.rows.specs.Placing.{Near, AllNear, Empty, Placed, Places};
 
@@ -14,27 +14,17 @@ pub const PLACES: usize = 255 * 64;
 fn is_known(row: Row, nodes: usize) -> bool
     ensures { result ≡ is_known nodes row }
 {
-    if 63 < row.feature {
-        return false;
-    }
-    if nodes <= row.parent as usize {
-        return false;
-    }
-    (row.target as usize) < nodes
+    row.feature < 64 && (row.parent as usize) < nodes && (row.target as usize) < nodes
 }
 
-// Whether no row of the first `count` has a feature above 63 or a node number outside the count (refusal 14).
-pub fn all_known(all: [Row; 2048], count: usize, nodes: usize) -> bool
-    requires { count ≤ 2048 }
-    ensures { result ≡ all_known nodes (take count all) }
+// Whether no row has a feature above 63 or a node number outside the count (refusal 14).
+pub fn all_known(rows: &[Row], nodes: usize) -> bool
+    ensures { result ≡ all_known nodes rows.now }
 {
-    let mut i = 0;
-    while i < count {
-        let row = all[i];
+    for &row in rows {
         if !is_known(row, nodes) {
             return false;
         }
-        i = i + 1;
     }
     true
 }
@@ -52,19 +42,16 @@ fn place(row: Row, targets: &mut [u16; PLACES]) -> bool
     true
 }
 
-// Places the first `count` rows in an empty table. Answers whether no two of them have one parent and feature (refusal 15).
-pub fn place_rows(all: [Row; 2048], count: usize, targets: &mut [u16; PLACES]) -> bool
-    requires count_bound { (count ≤ 2048) × (length targets.old ≡ 16320) }
-    requires all_near { AllNear count all × Empty targets.old }
-    ensures { (result ≡ not (has_twice (take count all))) × (result ≡ true → Placed (take count all) targets.new) × (length targets.new ≡ 16320) }
+// Places rows in an empty table. Answers whether no two of them have one parent and feature (refusal 15).
+pub fn place_rows(rows: &[Row], targets: &mut [u16; PLACES]) -> bool
+    requires targets_len { length targets.old ≡ 16320 }
+    requires all_near { AllNear rows.now × Empty targets.old }
+    ensures { (result ≡ not (has_twice rows.now)) × (result ≡ true → Placed rows.now targets.new) × (length targets.new ≡ 16320) }
 {
-    let mut i = 0;
-    while i < count {
-        let row = all[i];
+    for &row in rows {
         if !place(row, targets) {
             return false;
         }
-        i = i + 1;
     }
     true
 }

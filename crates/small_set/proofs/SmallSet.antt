@@ -55,7 +55,7 @@ use Rattle.graphs.specs.Reasons.{reason_at, written_order, along_links}
 use Rattle.graphs.specs.OfRows.{same_pair}
 use Rattle.graphs.proofs.Search.{true-both}
 use Rattle.acceptance.specs.declared.TableFault.TheVariants.{Bounds}
-use Rattle.acceptance.specs.declared.Opened.TheVariants.{Accepted, Refused}
+use Rattle.std.specs.Prelude.{Ok, Err}
 use Rattle.lattice.specs.Table.{every, last, below, sized, confined, reflexive, antisymmetric, transitive, least, greatest, ordered, is_meet, is_join, meet, join, bounded, restores, is_wanted, wanted, implies, found, upto}
 use Rattle.lattice.specs.Words.{word}
 use Rattle.bounds.specs.Sets.{distributive, irreducible, set_of}
@@ -82,7 +82,7 @@ use Rattle.calls.specs.Appropriate.{rewriting_appropriate, generalizing_appropri
 use Rattle.difference.specs.Difference.{first_at, over, differed, differed_rows}
 use Rattle.engine.specs.Differing.{reasons_of}
 use Rattle.calls.specs.Explained.{explaining, explaining_by}
-use Rattle.replies.specs.declared.Reply.TheVariants.{NoWantedType}
+use Rattle.replies.specs.Replies.{NoWantedType}
 use Rattle.listed.specs.Listing.{precedes, stated_rows, span, runs, listing, is_listed, first_after, following}
 use Rattle.listing.specs.Call.{continued, counted as counting, stepped, stepping}
 use Rattle.demands.proofs.Demanded.Wanted.{meet-known, label-below, type-exact}
@@ -139,7 +139,7 @@ all_hold =
     and refl
     and none_left
 
-three-middles-opened : opened three_middles.count three_middles.table ≡ Accepted
+three-middles-opened : opened three_middles.count three_middles.table ≡ Ok tt
 unfolding opened sized ordered confined reflexive antisymmetric transitive least greatest bounded meet is_meet join is_join every last below
 three-middles-opened = refl
 
@@ -154,7 +154,7 @@ or-first true c e = e
 or-first false c e = refl
 
 -- Over an accepted table whose types are so, 13 is given for no two accepted graphs.
-no-unwanted : (n : ℕ) (t first second out : List ℕ) (g s : List (Row Label)) → opened n t ≡ Accepted →
+no-unwanted : (n : ℕ) (t first second out : List ℕ) (g s : List (Row Label)) → opened n t ≡ Ok tt →
     every n (λ p. every n λ q. implies (not (eqb p 0) && below t p q) (found (wanted n t p q))) ≡ true →
     reading n first ≡ accepted g → reading n second ≡ accepted s → (differing n t first second out).reply ≡ NoWantedType → ⊥
 unfolding wanted_along
@@ -189,7 +189,7 @@ pub small-set : SmallSet
 small-set = record { all_hold = all_hold; never-unwanted = never-unwanted; itself-top = itself-top }
 
 -- 13. "Types 1, 2 both under 3 and 4, which are unordered, and 5 top: 3."
-pub two-over-two-opened : opened two_over_two.count two_over_two.table ≡ Refused Bounds
+pub two-over-two-opened : opened two_over_two.count two_over_two.table ≡ Err Bounds
 unfolding opened sized ordered confined reflexive antisymmetric transitive least greatest bounded meet is_meet join is_join every last below
 two-over-two-opened = refl
 

@@ -7,8 +7,8 @@ use Rattle.lattice.specs.Label.{Label}
 use Rattle.lattice.specs.Table.{upto}
 use Rattle.bounds.specs.Sets.{distributive, set_of}
 use Rattle.record.specs.Read.{reading, accepted}
-use Rattle.replies.specs.declared.Reply.TheVariants.{Length, Same, Under, Above, Neither, End, NoWantedType, ReadingOrder, NoReasonRoom, FeatureCount, NotListed}
-use Rattle.replies.specs.declared.Reply.{Reply}
+use Rattle.replies.specs.Replies.{Length, Same, Under, Above, Neither, End, NoWantedType, ReadingOrder, NoReasonRoom, FeatureCount, NotListed}
+use Rattle.replies.specs.Replies.{Reply}
 use Rattle.replies.specs.Reply.{Result, refusal, resulting, refusing, result_of}
 use Rattle.calls.specs.Calls.{rewriting, generalizing, ordering, unifying, differing, differing_by}
 use Rattle.calls.specs.Appropriate.{rewriting_appropriate, generalizing_appropriate}

@@ -22,7 +22,7 @@ use Rattle.record.specs.declared.GraphFault.TheVariants.{Malformed}
 use Rattle.difference.specs.Promise.{wanted_along, all_wanted_along, difference_along}
 use Rattle.difference.specs.Difference.{first_at, over, differed, differed_rows}
 use Rattle.replies.specs.declared.Side.TheVariants.{First, Second}
-use Rattle.replies.specs.declared.Reply.TheVariants.{Length, Graph, NoRoom, WrongVersion, NoStoreRoom}
+use Rattle.replies.specs.Replies.{Length, Graph, NoRoom, WrongVersion, NoStoreRoom}
 use Rattle.replies.specs.Reply.{resulting}
 use Rattle.engine.specs.Generalizing.{generalized}
 use Rattle.engine.specs.Unifying.{unified_rows}

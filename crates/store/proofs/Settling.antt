@@ -7,8 +7,8 @@ use native.Mathlib.Nat.{zero-add}
 use native.Mathlib.Omega.{arith}
 use lib.ListN.{length, take, drop, replicate, length-append}
 use lib.Seq.{paste, take_at, take-length, length-take-le}
-use Rattle.replies.specs.declared.Reply.{Reply}
-use Rattle.replies.specs.declared.Reply.TheVariants.{Length}
+use Rattle.replies.specs.Replies.{Reply}
+use Rattle.replies.specs.Replies.{Length}
 use Rattle.replies.specs.Reply.{resulting, length_of, Bounded}
 use Rattle.versions.specs.State.{Made, taken_by, taken}
 use Rattle.contents.specs.Promise.{Among}
@@ -47,3 +47,6 @@ module _ {m : Made} {r : Reply} {new : List ℕ} (room : ℕ) (h : room ≤ 1638
 
   pub front-made : taken (resulting r (take room (new ++ rest))) ≡ m
   front-made = ap (λ (s : List ℕ). taken (resulting r s)) front-is ∙ among.makes
+
+  pub front-told : (l : ℕ) → r ≡ Length l → taken (resulting (Length l) (take room (new ++ rest))) ≡ m
+  front-told l e = ap (λ (q : Reply). taken (resulting q (take room (new ++ rest)))) (sym e) ∙ front-made

@@ -3,7 +3,7 @@
 use Rattle.std.specs.Prelude.{List, ◌++◌, ℕ, length, drop, get_or}
 use Rattle.std.proofs.Math.Option.{none}
 use Rattle.acceptance.specs.Reply.{opened}
-use Rattle.replies.specs.declared.Reply.TheVariants.{Length}
+use Rattle.replies.specs.Replies.{Length}
 use Rattle.replies.specs.Reply.{Result, resulting, refusing}
 use Rattle.calls.specs.Calls.{checked}
 use Rattle.versions.specs.State.{Made, made, stopped, Programs, held}

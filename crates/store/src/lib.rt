@@ -4,100 +4,98 @@
 
 #![tactic(auto)]
 
-ghost use Rattle.std.specs.Prelude.{◌≡◌, length};
-ghost use Rattle.replies.specs.Reply.{Bounded, resulting};
+ghost use Rattle.std.specs.Prelude.{◌≡◌, ◌≤◌, length};
+ghost use Rattle.replies.specs.Replies.{Length, told};
+ghost use Rattle.replies.specs.Reply.{resulting};
 ghost use Rattle.versions.specs.State.{taken};
+ghost use Rattle.store.specs.Opening.{Opens};
 ghost use Rattle.store.specs.Calls.{dropping, fetching, putting, settled};
 
-use acceptance::Opened;
 use record::GraphFault;
-use replies::{Reply, Side};
+use replies::{Refusal, Side};
 
 // Puts a program into a store as a version that is absent. The answer tells how many bytes are used.
-pub fn put(n: usize, table: &[u8], store: &mut [u8], version: usize, bytes: &[u8]) -> Reply
-    ensures { resulting result store.new ≡ putting n table.now store.old version bytes.now }
+pub fn put(
+    n: usize,
+    table: &[u8],
+    store: &mut [u8],
+    version: usize,
+    bytes: &[u8],
+) -> Result<usize, Refusal>
+    ensures { resulting (told result) store.new ≡ putting n table.now store.old version bytes.now }
 {
     let mut sets = [0u64; bounds::sets::WORDS];
     let mut cells = [[0u8; 64]; 64];
-    let opened = bounds::open(n, table, true, &mut sets, &mut cells);
-    match opened {
-        Opened::Refused(fault) => Reply::Table(fault),
-        Opened::Accepted => {
-            let room = store.len();
-            if room > contents::MOST {
-                return Reply::Graph(GraphFault::Malformed, Side::First);
-            }
-            let mut state = [0u8; contents::MOST];
-            let reply = contents::put_among(
-                n,
-                table,
-                &sets,
-                &cells,
-                store,
-                version,
-                bytes,
-                &mut state[..room],
-            );
-            settle(reply, &state[..room], store)
-        }
-    }
+    let room = store.len();
+    open(n, table, room, &mut sets, &mut cells)?;
+    let mut state = [0u8; contents::MOST];
+    let used = contents::put_among(
+        n,
+        table,
+        &sets,
+        &cells,
+        store,
+        version,
+        bytes,
+        &mut state[..room],
+    )?;
+    settle(used, &state[..room], store);
+    Ok(used)
 }
 
 // Drops a version of a store. The answer tells how many bytes are used.
-pub fn drop(n: usize, table: &[u8], store: &mut [u8], version: usize) -> Reply
-    ensures { resulting result store.new ≡ dropping n table.now store.old version }
+pub fn drop(n: usize, table: &[u8], store: &mut [u8], version: usize) -> Result<usize, Refusal>
+    ensures { resulting (told result) store.new ≡ dropping n table.now store.old version }
 {
     let mut sets = [0u64; bounds::sets::WORDS];
     let mut cells = [[0u8; 64]; 64];
-    let opened = bounds::open(n, table, true, &mut sets, &mut cells);
-    match opened {
-        Opened::Refused(fault) => Reply::Table(fault),
-        Opened::Accepted => {
-            let room = store.len();
-            if room > contents::MOST {
-                return Reply::Graph(GraphFault::Malformed, Side::First);
-            }
-            let mut state = [0u8; contents::MOST];
-            let reply = contents::drop_among(
-                n,
-                table,
-                &sets,
-                &cells,
-                store,
-                version,
-                &mut state[..room],
-            );
-            settle(reply, &state[..room], store)
-        }
-    }
+    let room = store.len();
+    open(n, table, room, &mut sets, &mut cells)?;
+    let mut state = [0u8; contents::MOST];
+    let used = contents::drop_among(n, table, &sets, &cells, store, version, &mut state[..room])?;
+    settle(used, &state[..room], store);
+    Ok(used)
 }
 
 // Writes the record of a version of a store.
-pub fn read(n: usize, table: &[u8], store: &[u8], version: usize, out: &mut [u8]) -> Reply
-    ensures { resulting result out.new ≡ fetching n table.now store.now version out.old }
+pub fn read(
+    n: usize,
+    table: &[u8],
+    store: &[u8],
+    version: usize,
+    out: &mut [u8],
+) -> Result<usize, Refusal>
+    ensures { resulting (told result) out.new ≡ fetching n table.now store.now version out.old }
 {
     let mut sets = [0u64; bounds::sets::WORDS];
     let mut cells = [[0u8; 64]; 64];
-    let opened = bounds::open(n, table, true, &mut sets, &mut cells);
-    match opened {
-        Opened::Refused(fault) => Reply::Table(fault),
-        Opened::Accepted => {
-            if store.len() > contents::MOST {
-                return Reply::Graph(GraphFault::Malformed, Side::First);
-            }
-            contents::read_among(n, table, &sets, &cells, store, version, out)
-        }
-    }
+    open(n, table, store.len(), &mut sets, &mut cells)?;
+    contents::read_among(n, table, &sets, &cells, store, version, out)
 }
 
-// Copies a state of the told length into the store; any other reply leaves the store as it is.
-fn settle(reply: Reply, state: &[u8], store: &mut [u8]) -> Reply
-    requires { Bounded reply (length state.now) × (length state.now ≡ length store.old) }
-    ensures { resulting result store.new ≡ settled store.old (taken (resulting reply state.now)) }
+// Opens the table of a call over a buffer of `room` bytes: it fills `sets` and `cells` with the joins of the table. A buffer above the most bytes
+// of a store is refused behind the table.
+fn open(
+    n: usize,
+    table: &[u8],
+    room: usize,
+    sets: &mut [u64; bounds::sets::WORDS],
+    cells: &mut [[u8; 64]; 64],
+) -> Result<(), Refusal>
+    requires { (length sets.old ≡ 128) × (length cells.old ≡ 64) }
+    ensures { Opens n table.now room result sets.new cells.new }
 {
-    let Reply::Length(length) = reply else {
-        return reply;
-    };
-    gathering::parts::copy(&state[..length], 0, store);
-    Reply::Length(length)
+    bounds::open(n, table, true, sets, cells)?;
+    if room > contents::MOST {
+        return Err(Refusal::Graph(GraphFault::Malformed, Side::First));
+    }
+    Ok(())
+}
+
+// Copies the used bytes of a state into the store; the bytes behind them stay.
+fn settle(used: usize, state: &[u8], store: &mut [u8])
+    requires { (used ≤ length state.now) × (length state.now ≡ length store.old) }
+    ensures { resulting (Length used) store.new ≡ settled store.old (taken (resulting (Length used) state.now)) }
+{
+    gathering::parts::copy(&state[..used], 0, store);
 }

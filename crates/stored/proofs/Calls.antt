@@ -13,11 +13,10 @@ use lib.Seq.{drop-append_seam}
 use Rattle.graphs.specs.Rows.{Row}
 use Rattle.graphs.proofs.Walk.{some-injective}
 use Rattle.lattice.specs.Label.{Label}
-use Rattle.acceptance.specs.declared.Opened.TheVariants.{Accepted}
-use Rattle.acceptance.specs.declared.Opened.{Opened}
-use Rattle.acceptance.specs.Reply.{opened}
+use Rattle.std.specs.Prelude.{Ok}
+use Rattle.acceptance.specs.Reply.{opened, TableAnswer}
 use Rattle.record.specs.Read.{Reading, refused, accepted, reading}
-use Rattle.replies.specs.declared.Reply.TheVariants.{WrongVersion}
+use Rattle.replies.specs.Replies.{WrongVersion}
 use Rattle.replies.specs.Reply.{Result, length_of}
 use Rattle.calls.specs.Calls.{checked}
 use Rattle.demands.specs.Demand.{WrittenRecord}
@@ -80,11 +79,11 @@ module _ (n : ℕ) (t : List ℕ) where
         first = ap (λ (x : List ℕ). s ++ x) (sym (drop-append_seam s (drop (length s) buffer)));
       }
 
-  module _ (opens : opened n t ≡ Accepted) (buffer : List ℕ) (ps : Programs) (holds : Holds n t buffer ps) where
+  module _ (opens : opened n t ≡ Ok tt) (buffer : List ℕ) (ps : Programs) (holds : Holds n t buffer ps) where
     -- After the checks of the table and the buffer, a call goes on with the programs.
     past-checks : (next : Programs → Made) → in_table n t next buffer ≡ next ps
     past-checks next =
-        ap₂ (λ (o : Opened) (h : Option Programs). checked stopped o (on_held h next)) opens (held-complete n t opens buffer ps holds)
+        ap₂ (λ (o : TableAnswer) (h : Option Programs). checked stopped o (on_held h next)) opens (held-complete n t opens buffer ps holds)
 
     pub putting-is : (version : ℕ) (bytes : List ℕ) → putting n t buffer version bytes ≡ settled buffer (put_among n t (length buffer) version bytes ps)
     unfolding putting
@@ -168,7 +167,7 @@ module _ (n : ℕ) (t : List ℕ) where
             (few, free, (rows, q))
 
   -- After any calls in turn the buffer has the same length and holds the programs that remain.
-  pub calls-hold : opened n t ≡ Accepted → (cs : List Call) (buffer : List ℕ) (ps : Programs) → Holds n t buffer ps →
+  pub calls-hold : opened n t ≡ Ok tt → (cs : List Call) (buffer : List ℕ) (ps : Programs) → Holds n t buffer ps →
       (length (buffer_after n t buffer cs) ≡ length buffer) × Holds n t (buffer_after n t buffer cs) (programs_after n t buffer ps cs)
   unfolding buffer_after programs_after
   calls-hold opens [] buffer ps holds = (refl, holds)
@@ -179,7 +178,7 @@ module _ (n : ℕ) (t : List ℕ) where
       (longer ∙ long, last)
 
   -- From an empty store on, which is two zero bytes with anything behind them, the buffer holds the programs that were put and not dropped.
-  pub store-holds : opened n t ≡ Accepted → (rest : List ℕ) → length rest ≤ 16382 → (cs : List Call) →
+  pub store-holds : opened n t ≡ Ok tt → (rest : List ℕ) → length rest ≤ 16382 → (cs : List Call) →
       held n t (buffer_after n t (empty_state ++ rest) cs) ≡ some (programs_after n t (empty_state ++ rest) no_programs cs)
   store-holds opens rest lent cs =
       held-complete n t opens (buffer_after n t (empty_state ++ rest) cs) (programs_after n t (empty_state ++ rest) no_programs cs)

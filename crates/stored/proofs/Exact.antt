@@ -9,18 +9,17 @@ use native.Mathlib.Omega.{arith}
 use borrow.Author.Tests.{lt-ltb, le-ltb, ltb-true, ltb-false, le-leb, lt-leb, leb-true, leb-false}
 use lib.Dec.{ltb, leb}
 use lib.ListN.{length, get_or, set, drop, get_or-eq_default}
+use Rattle.std.specs.Prelude.{Ok, Err}
 use Rattle.graphs.specs.Rows.{Row}
 use Rattle.graphs.proofs.Walk.{some-injective}
 use Rattle.lattice.specs.Label.{Label}
-use Rattle.acceptance.specs.declared.Opened.{Opened}
-use Rattle.acceptance.specs.declared.Opened.TheVariants.{Accepted, Refused}
-use Rattle.acceptance.specs.Reply.{opened}
-use Rattle.encode.specs.declared.Written.TheVariants as outcome
+use Rattle.acceptance.specs.Reply.{opened, TableAnswer}
+use Rattle.encode.specs.declared.Unwritten.TheVariants as unwritten
 use Rattle.encode.specs.Encode.{fitted, yielding}
 use Rattle.record.specs.Read.{Reading, refused, accepted, reading}
 use Rattle.replies.specs.declared.Side.TheVariants.{First}
-use Rattle.replies.specs.declared.Reply.{Reply}
-use Rattle.replies.specs.declared.Reply.TheVariants.{Graph, WrongVersion}
+use Rattle.replies.specs.Replies.{Reply}
+use Rattle.replies.specs.Replies.{Graph, WrongVersion}
 use Rattle.replies.specs.Reply.{Result, result_of}
 use Rattle.record.specs.declared.GraphFault.TheVariants.{Malformed}
 use Rattle.calls.specs.Calls.{checked}
@@ -53,8 +52,8 @@ module _ (n : ℕ) (t : List ℕ) where
 
   module _ (buffer : List ℕ) (version : ℕ) where
     -- What a call goes on with, by the table's check and by what the buffer holds.
-    table-first : (o : Opened) → opened n t ≡ o → (next : Programs → Made) → in_table n t next buffer ≡ checked stopped o (on_held (held n t buffer) next)
-    table-first o e next = ap (λ (x : Opened). checked stopped x (on_held (held n t buffer) next)) e
+    table-first : (o : TableAnswer) → opened n t ≡ o → (next : Programs → Made) → in_table n t next buffer ≡ checked stopped o (on_held (held n t buffer) next)
+    table-first o e next = ap (λ (x : TableAnswer). checked stopped x (on_held (held n t buffer) next)) e
 
     none-held : HoldsNone n t buffer → held n t buffer ≡ none
     none-held none-holds = go (held n t buffer) refl
@@ -63,12 +62,12 @@ module _ (n : ℕ) (t : List ℕ) where
         go none e = refl
         go (some ps) e = absurd (none-holds ps (held-sound n t buffer ps e))
 
-    held_none : opened n t ≡ Accepted → held n t buffer ≡ none → HoldsNone n t buffer
+    held_none : opened n t ≡ Ok tt → held n t buffer ≡ none → HoldsNone n t buffer
     held_none opens e ps holds = none-some (sym e ∙ held-complete n t opens buffer ps holds)
 
-    stateless : opened n t ≡ Accepted → HoldsNone n t buffer → (next : Programs → Made) → in_table n t next buffer ≡ stopped (Graph Malformed First)
+    stateless : opened n t ≡ Ok tt → HoldsNone n t buffer → (next : Programs → Made) → in_table n t next buffer ≡ stopped (Graph Malformed First)
     stateless opens none-holds next =
-        table-first Accepted opens next ∙ ap (λ (h : Option Programs). on_held h next) (none-held none-holds)
+        table-first (Ok tt) opens next ∙ ap (λ (h : Option Programs). on_held h next) (none-held none-holds)
 
     -- Put.
     module _ (bytes : List ℕ) where
@@ -83,7 +82,7 @@ module _ (n : ℕ) (t : List ℕ) where
               due.met ps rows r passes
               ((way-meets n t passes.opens (length buffer) (set ps version (some (written_record rows))) (put-versions buffer version bytes ps rows passes) r).0 e)
 
-          test : (ps : Programs) (rows : List (Row Label)) → opened n t ≡ Accepted → Holds n t buffer ps → reading n bytes ≡ accepted rows →
+          test : (ps : Programs) (rows : List (Row Label)) → opened n t ≡ Ok tt → Holds n t buffer ps → reading n bytes ≡ accepted rows →
               (b : Bool) → ltb version 16 ≡ b → (o : Option (List ℕ)) → get_or ps version none ≡ o →
               PutDue n t buffer version bytes
               (settled buffer (cond (b && is_none o) (way n t (length buffer) (set ps version (some (written_record rows)))) (stopped WrongVersion))).reply
@@ -93,21 +92,21 @@ module _ (n : ℕ) (t : List ℕ) where
               ends ps rows (record { opens = opens; holds = holds; reads = reads; numbered = ltb-true version 16 x; absent = y })
               (way n t (length buffer) (set ps version (some (written_record rows)))) refl
 
-          read : (ps : Programs) → opened n t ≡ Accepted → Holds n t buffer ps → (o : Reading) → reading n bytes ≡ o →
+          read : (ps : Programs) → opened n t ≡ Ok tt → Holds n t buffer ps → (o : Reading) → reading n bytes ≡ o →
               PutDue n t buffer version bytes
               (settled buffer (on_program o λ p. on_absent ps version (way n t (length buffer) (set ps version (some p))))).reply
           read ps opens holds (refused fault) e = due.program ps fault opens holds e
           read ps opens holds (accepted rows) e = test ps rows opens holds e (ltb version 16) refl (get_or ps version none) refl
 
-          state : opened n t ≡ Accepted → (o : Option Programs) → held n t buffer ≡ o →
+          state : opened n t ≡ Ok tt → (o : Option Programs) → held n t buffer ≡ o →
               PutDue n t buffer version bytes (settled buffer (on_held o (put_among n t (length buffer) version bytes))).reply
           state opens none e = due.no-state opens (held_none opens e)
           state opens (some ps) e = read ps opens (held-sound n t buffer ps e) (reading n bytes) refl
 
-          table : (o : Opened) → opened n t ≡ o →
+          table : (o : TableAnswer) → opened n t ≡ o →
               PutDue n t buffer version bytes (settled buffer (checked stopped o (on_held (held n t buffer) (put_among n t (length buffer) version bytes)))).reply
-          table (Refused fault) e = due.table fault e
-          table Accepted e = state e (held n t buffer) refl
+          table (Err fault) e = due.table fault e
+          table (Ok tt) e = state e (held n t buffer) refl
 
       -- A put that passes its checks goes the way of the new programs.
       pub put-goes : (ps : Programs) (rows : List (Row Label)) → PutChecked n t buffer version bytes ps rows →
@@ -122,7 +121,7 @@ module _ (n : ℕ) (t : List ℕ) where
       put-replies : {r : Reply} → PutDue n t buffer version bytes r → (putting n t buffer version bytes).reply ≡ r
       unfolding putting
       put-replies (due.table fault e) =
-          ap (λ (m : Made). (settled buffer m).reply) (table-first (Refused fault) e (put_among n t (length buffer) version bytes))
+          ap (λ (m : Made). (settled buffer m).reply) (table-first (Err fault) e (put_among n t (length buffer) version bytes))
       put-replies (due.no-state opens none-holds) =
           ap (λ (m : Made). (settled buffer m).reply) (stateless opens none-holds (put_among n t (length buffer) version bytes))
       put-replies (due.program ps fault opens holds reads) =
@@ -165,21 +164,21 @@ module _ (n : ℕ) (t : List ℕ) where
             due.met ps p r passes
             ((way-meets n t passes.opens (length buffer) (set ps version none) (drop-versions buffer version ps p passes) r).0 e)
 
-        test : (ps : Programs) → opened n t ≡ Accepted → Holds n t buffer ps → (o : Option (List ℕ)) → get_or ps version none ≡ o →
+        test : (ps : Programs) → opened n t ≡ Ok tt → Holds n t buffer ps → (o : Option (List ℕ)) → get_or ps version none ≡ o →
             DropDue n t buffer version (settled buffer (on_present o λ p. way n t (length buffer) (set ps version none))).reply
         test ps opens holds none e = due.numbered ps opens holds (inr e)
         test ps opens holds (some p) e =
             ends ps p (record { opens = opens; holds = holds; present = e }) (way n t (length buffer) (set ps version none)) refl
 
-        state : opened n t ≡ Accepted → (o : Option Programs) → held n t buffer ≡ o →
+        state : opened n t ≡ Ok tt → (o : Option Programs) → held n t buffer ≡ o →
             DropDue n t buffer version (settled buffer (on_held o (drop_among n t (length buffer) version))).reply
         state opens none e = due.no-state opens (held_none opens e)
         state opens (some ps) e = test ps opens (held-sound n t buffer ps e) (get_or ps version none) refl
 
-        table : (o : Opened) → opened n t ≡ o →
+        table : (o : TableAnswer) → opened n t ≡ o →
             DropDue n t buffer version (settled buffer (checked stopped o (on_held (held n t buffer) (drop_among n t (length buffer) version)))).reply
-        table (Refused fault) e = due.table fault e
-        table Accepted e = state e (held n t buffer) refl
+        table (Err fault) e = due.table fault e
+        table (Ok tt) e = state e (held n t buffer) refl
 
     -- A drop that passes its checks goes the way of the remaining programs.
     pub drop-goes : (ps : Programs) (p : List ℕ) → VersionChecked n t buffer version ps p →
@@ -191,7 +190,7 @@ module _ (n : ℕ) (t : List ℕ) where
     drop-replies : {r : Reply} → DropDue n t buffer version r → (dropping n t buffer version).reply ≡ r
     unfolding dropping
     drop-replies (due.table fault e) =
-        ap (λ (m : Made). (settled buffer m).reply) (table-first (Refused fault) e (drop_among n t (length buffer) version))
+        ap (λ (m : Made). (settled buffer m).reply) (table-first (Err fault) e (drop_among n t (length buffer) version))
     drop-replies (due.no-state opens none-holds) =
         ap (λ (m : Made). (settled buffer m).reply) (stateless opens none-holds (drop_among n t (length buffer) version))
     drop-replies (due.numbered ps opens holds wrong) =
@@ -210,7 +209,7 @@ module _ (n : ℕ) (t : List ℕ) where
     -- Read.
     module _ (out : List ℕ) where
       abbrev back_by : List ℕ → Bool → Result
-      back_by p b = result_of (cond b (yielding (outcome.Length (length p)) (p ++ drop (length p) out)) (yielding outcome.NoRoom out))
+      back_by p b = result_of (cond b (yielding (Ok (length p)) (p ++ drop (length p) out)) (yielding (Err unwritten.NoRoom) out))
 
       read-due : ReadDue n t buffer version (length out) (fetching n t buffer version out).reply
       unfolding fetching fitted
@@ -221,21 +220,21 @@ module _ (n : ℕ) (t : List ℕ) where
           fits ps p passes true e = due.fits ps p passes (leb-true (length p) (length out) e)
           fits ps p passes false e = due.shorter ps p passes (leb-false (length p) (length out) e)
 
-          test : (ps : Programs) → opened n t ≡ Accepted → Holds n t buffer ps → (o : Option (List ℕ)) → get_or ps version none ≡ o →
+          test : (ps : Programs) → opened n t ≡ Ok tt → Holds n t buffer ps → (o : Option (List ℕ)) → get_or ps version none ≡ o →
               ReadDue n t buffer version (length out) (given out (on_present o made)).reply
           test ps opens holds none e = due.numbered ps opens holds (inr e)
           test ps opens holds (some p) e =
               fits ps p (record { opens = opens; holds = holds; present = e }) (leb (length p) (length out)) refl
 
-          state : opened n t ≡ Accepted → (o : Option Programs) → held n t buffer ≡ o →
+          state : opened n t ≡ Ok tt → (o : Option Programs) → held n t buffer ≡ o →
               ReadDue n t buffer version (length out) (given out (on_held o λ ps. on_present (get_or ps version none) made)).reply
           state opens none e = due.no-state opens (held_none opens e)
           state opens (some ps) e = test ps opens (held-sound n t buffer ps e) (get_or ps version none) refl
 
-          table : (o : Opened) → opened n t ≡ o →
+          table : (o : TableAnswer) → opened n t ≡ o →
               ReadDue n t buffer version (length out) (given out (checked stopped o (on_held (held n t buffer) λ ps. on_present (get_or ps version none) made))).reply
-          table (Refused fault) e = due.table fault e
-          table Accepted e = state e (held n t buffer) refl
+          table (Err fault) e = due.table fault e
+          table (Ok tt) e = state e (held n t buffer) refl
 
       -- A read that passes its checks writes the version's record.
       pub read_goes : (ps : Programs) (p : List ℕ) → VersionChecked n t buffer version ps p → fetching n t buffer version out ≡ result_of (fitted p out)
@@ -246,7 +245,7 @@ module _ (n : ℕ) (t : List ℕ) where
       read-replies : {r : Reply} → ReadDue n t buffer version (length out) r → (fetching n t buffer version out).reply ≡ r
       unfolding fetching fitted
       read-replies (due.table fault e) =
-          ap (λ (m : Made). (given out m).reply) (table-first (Refused fault) e (λ ps. on_present (get_or ps version none) made))
+          ap (λ (m : Made). (given out m).reply) (table-first (Err fault) e (λ ps. on_present (get_or ps version none) made))
       read-replies (due.no-state opens none-holds) =
           ap (λ (m : Made). (given out m).reply) (stateless opens none-holds (λ ps. on_present (get_or ps version none) made))
       read-replies (due.numbered ps opens holds wrong) =

@@ -10,7 +10,7 @@ use borrow.Author.Tests.{leb-true}
 use lib.Dec.{eqb, leb}
 use lib.ListN.{length, get_or, drop, replicate}
 use Rattle.graphs.proofs.Walk.{some-injective}
-use Rattle.acceptance.specs.declared.Opened.TheVariants.{Accepted}
+use Rattle.std.specs.Prelude.{Ok}
 use Rattle.acceptance.specs.Reply.{opened}
 use Rattle.demands.specs.Demand.{WrittenRecord}
 use Rattle.gathering.proofs.Told.{none-some}
@@ -132,7 +132,7 @@ module _ (n : ℕ) (t : List ℕ) where
           stands qs (leb-true (length buffer) 16384 q) is (begins (way n t (length buffer) qs) buffer) refl on
       go false q d = none-some d
 
-  module _ (opens : opened n t ≡ Accepted) where
+  module _ (opens : opened n t ≡ Ok tt) where
     -- Programs that a buffer holds are given by `held`.
     pub held-complete : (buffer : List ℕ) (ps : Programs) → Holds n t buffer ps → held n t buffer ≡ some ps
     held-complete buffer ps holds =

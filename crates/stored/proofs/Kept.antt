@@ -11,10 +11,10 @@ use lib.Seq.{get_or-set_same, get_or-set_other}
 use Rattle.graphs.specs.Rows.{Row}
 use Rattle.graphs.proofs.Walk.{some-injective}
 use Rattle.lattice.specs.Label.{Label}
-use Rattle.acceptance.specs.declared.Opened.TheVariants.{Accepted}
+use Rattle.std.specs.Prelude.{Ok}
 use Rattle.acceptance.specs.Reply.{opened}
 use Rattle.record.specs.Read.{accepted, reading}
-use Rattle.replies.specs.declared.Reply.TheVariants.{Length}
+use Rattle.replies.specs.Replies.{Length}
 use Rattle.replies.specs.Reply.{length_of}
 use Rattle.gathering.proofs.Told.{none-some, length-told}
 use Rattle.versions.specs.State.{Programs}
@@ -37,7 +37,7 @@ first-drops : (n : ℕ) (t : List ℕ) (version : ℕ) (buffer : List ℕ) (c : 
 first-drops n t version _ _ _ (turns.here buffer l cs e) = inl (refl, (l, e))
 first-drops n t version _ _ _ (turns.later buffer c cs d) = inr d
 
-module _ (n : ℕ) (t : List ℕ) (opens : opened n t ≡ Accepted) where
+module _ (n : ℕ) (t : List ℕ) (opens : opened n t ≡ Ok tt) where
   -- the programs after one call
   abbrev after : List ℕ → Programs → Call → Programs
   after buffer ps c = where_given (length_of (called n t buffer c).reply) ps (done n t c ps)

@@ -12,10 +12,10 @@ use lib.ListN.{length, get_or, set, take, drop, take-append-drop}
 use lib.Seq.{take-append_seam}
 use Rattle.graphs.specs.Rows.{Row}
 use Rattle.lattice.specs.Label.{Label}
-use Rattle.acceptance.specs.declared.Opened.TheVariants.{Accepted}
+use Rattle.std.specs.Prelude.{Ok}
 use Rattle.acceptance.specs.Reply.{opened}
 use Rattle.record.specs.Read.{accepted, reading}
-use Rattle.replies.specs.declared.Reply.TheVariants.{Length, NoStoreRoom, WrongVersion}
+use Rattle.replies.specs.Replies.{Length, NoStoreRoom, WrongVersion}
 use Rattle.replies.specs.Reply.{Result}
 use Rattle.gathering.proofs.Told.{none-some}
 use Rattle.versions.specs.State.{Made, made, stopped, and_then, Programs, empty_state, state_of, differences, within, stored, way}
@@ -86,7 +86,7 @@ module _ (n : ℕ) (t buffer longer : List ℕ) (ps : Programs) (holds : Holds n
       }
 
   -- Every version is read from it as before.
-  pub longer-reads : opened n t ≡ Accepted → (version : ℕ) (out : List ℕ) → fetching n t longer version out ≡ fetching n t buffer version out
+  pub longer-reads : opened n t ≡ Ok tt → (version : ℕ) (out : List ℕ) → fetching n t longer version out ≡ fetching n t buffer version out
   longer-reads opens version out =
       fetching-is n t opens longer ps longer-holds version out ∙ sym (fetching-is n t opens buffer ps holds version out)
 
@@ -137,7 +137,7 @@ module _ (n : ℕ) (t buffer longer : List ℕ) (ps : Programs) (holds : Holds n
       go m (due.met qs p _ passes meets) = elim meets [ ]
 
 -- Calls in turn on a buffer that holds programs.
-module _ (n : ℕ) (t : List ℕ) (opens : opened n t ≡ Accepted) (buffer : List ℕ) (ps : Programs) (holds : Holds n t buffer ps) (cs : List Call) where
+module _ (n : ℕ) (t : List ℕ) (opens : opened n t ≡ Ok tt) (buffer : List ℕ) (ps : Programs) (holds : Holds n t buffer ps) (cs : List Call) where
   -- The programs after the calls are those that were put and not dropped since, and those that were there before and were not dropped.
   pub kept-exact : (version : ℕ) (p : List ℕ) → (get_or (programs_after n t buffer ps cs) version none ≡ some p) ↔
       (((bytes : List ℕ) × (rows : List (Row Label)) × Keeps n t version bytes buffer cs × (reading n bytes ≡ accepted rows) × (p ≡ written_record rows)) ⊎

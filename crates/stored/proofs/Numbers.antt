@@ -11,14 +11,14 @@ use Rattle.graphs.proofs.Walk.{some-injective}
 use Rattle.lattice.specs.Label.{Label}
 use Rattle.acceptance.specs.declared.TableFault.{TableFault}
 use Rattle.acceptance.specs.declared.TableFault.TheVariants.{Size, Order, Bounds}
-use Rattle.acceptance.specs.declared.Opened.TheVariants.{Accepted, Refused}
+use Rattle.std.specs.Prelude.{Ok, Err}
 use Rattle.acceptance.specs.Reply.{table_number, opened}
 use Rattle.record.specs.declared.GraphFault.{GraphFault}
 use Rattle.record.specs.declared.GraphFault.TheVariants.{Malformed}
 use Rattle.record.specs.Read.{refused, accepted, reading}
 use Rattle.replies.specs.declared.Side.TheVariants.{First, Second}
-use Rattle.replies.specs.declared.Reply.{Reply}
-use Rattle.replies.specs.declared.Reply.TheVariants.{Table, Graph, NoRoom, TooLarge, NoWantedType, WrongVersion, NoStoreRoom}
+use Rattle.replies.specs.Replies.{Reply}
+use Rattle.replies.specs.Replies.{Table, Graph, NoRoom, TooLarge, NoWantedType, WrongVersion, NoStoreRoom}
 use Rattle.replies.specs.Reply.{refusal}
 use Rattle.gathering.proofs.Told.{none-some}
 use Rattle.gathered.proofs.Theorems.{reading-number}
@@ -48,40 +48,40 @@ met-number k (short step c ds is made-is less) e = inr (inr (sym (some-injective
 module _ (n : ℕ) (t buffer : List ℕ) (version : ℕ) where
   -- Put.
   module _ (bytes : List ℕ) where
-    pub put-table : (fault : TableFault) → ((putting n t buffer version bytes).reply ≡ Table fault) ↔ (opened n t ≡ Refused fault)
+    pub put-table : (fault : TableFault) → ((putting n t buffer version bytes).reply ≡ Table fault) ↔ (opened n t ≡ Err fault)
     put-table fault = (
       λ e. go fault ((put-exact n t buffer version bytes (Table fault)).0 e),
       λ e. (put-exact n t buffer version bytes (Table fault)).1 (due.table fault e),
     )
       where
-        go : (fault : TableFault) → PutDue n t buffer version bytes (Table fault) → opened n t ≡ Refused fault
+        go : (fault : TableFault) → PutDue n t buffer version bytes (Table fault) → opened n t ≡ Err fault
         go _ (due.table fault e) = e
         go fault (due.met ps rows _ passes meets) = elim meets [ ]
 
-    pub put-stateless : ((putting n t buffer version bytes).reply ≡ Graph Malformed First) ↔ ((opened n t ≡ Accepted) × HoldsNone n t buffer)
+    pub put-stateless : ((putting n t buffer version bytes).reply ≡ Graph Malformed First) ↔ ((opened n t ≡ Ok tt) × HoldsNone n t buffer)
     put-stateless = (
       λ e. go ((put-exact n t buffer version bytes (Graph Malformed First)).0 e),
       λ (opens, nothing). (put-exact n t buffer version bytes (Graph Malformed First)).1 (due.no-state opens nothing),
     )
       where
-        go : PutDue n t buffer version bytes (Graph Malformed First) → (opened n t ≡ Accepted) × HoldsNone n t buffer
+        go : PutDue n t buffer version bytes (Graph Malformed First) → (opened n t ≡ Ok tt) × HoldsNone n t buffer
         go (due.no-state opens nothing) = (opens, nothing)
         go (due.met ps rows _ passes meets) = elim meets [ ]
 
     pub put-program : (fault : GraphFault) → ((putting n t buffer version bytes).reply ≡ Graph fault Second) ↔
-        ((opened n t ≡ Accepted) × ((ps : Programs) × Holds n t buffer ps) × (reading n bytes ≡ refused fault))
+        ((opened n t ≡ Ok tt) × ((ps : Programs) × Holds n t buffer ps) × (reading n bytes ≡ refused fault))
     put-program fault = (
       λ e. go fault ((put-exact n t buffer version bytes (Graph fault Second)).0 e),
       λ (opens, (ps, holds), reads). (put-exact n t buffer version bytes (Graph fault Second)).1 (due.program ps fault opens holds reads),
     )
       where
         go : (fault : GraphFault) → PutDue n t buffer version bytes (Graph fault Second) →
-            (opened n t ≡ Accepted) × ((ps : Programs) × Holds n t buffer ps) × (reading n bytes ≡ refused fault)
+            (opened n t ≡ Ok tt) × ((ps : Programs) × Holds n t buffer ps) × (reading n bytes ≡ refused fault)
         go _ (due.program ps fault opens holds reads) = (opens, (ps, holds), reads)
         go fault (due.met ps rows _ passes meets) = elim meets [ ]
 
     pub put-numbered : ((putting n t buffer version bytes).reply ≡ WrongVersion) ↔
-        ((opened n t ≡ Accepted) × ((rows : List (Row Label)) × (reading n bytes ≡ accepted rows)) ×
+        ((opened n t ≡ Ok tt) × ((rows : List (Row Label)) × (reading n bytes ≡ accepted rows)) ×
         ((ps : Programs) × Holds n t buffer ps × ((15 < version) ⊎ ((p : List ℕ) × (get_or ps version none ≡ some p)))))
     put-numbered = (
       λ e. go ((put-exact n t buffer version bytes WrongVersion).0 e),
@@ -89,7 +89,7 @@ module _ (n : ℕ) (t buffer : List ℕ) (version : ℕ) where
     )
       where
         go : PutDue n t buffer version bytes WrongVersion →
-            (opened n t ≡ Accepted) × ((rows : List (Row Label)) × (reading n bytes ≡ accepted rows)) ×
+            (opened n t ≡ Ok tt) × ((rows : List (Row Label)) × (reading n bytes ≡ accepted rows)) ×
             ((ps : Programs) × Holds n t buffer ps × ((15 < version) ⊎ ((p : List ℕ) × (get_or ps version none ≡ some p))))
         go (due.numbered ps rows opens holds reads wrong) = (opens, (rows, reads), (ps, holds, wrong))
         go (due.met ps rows _ passes meets) = elim meets [ ]
@@ -110,35 +110,35 @@ module _ (n : ℕ) (t buffer : List ℕ) (version : ℕ) where
         go twenty-one (due.met ps rows _ passes meets) = (ps, rows, passes, meets)
 
   -- Drop.
-  pub drop-table : (fault : TableFault) → ((dropping n t buffer version).reply ≡ Table fault) ↔ (opened n t ≡ Refused fault)
+  pub drop-table : (fault : TableFault) → ((dropping n t buffer version).reply ≡ Table fault) ↔ (opened n t ≡ Err fault)
   drop-table fault = (
     λ e. go fault ((drop_exact n t buffer version (Table fault)).0 e),
     λ e. (drop_exact n t buffer version (Table fault)).1 (due.table fault e),
   )
     where
-      go : (fault : TableFault) → DropDue n t buffer version (Table fault) → opened n t ≡ Refused fault
+      go : (fault : TableFault) → DropDue n t buffer version (Table fault) → opened n t ≡ Err fault
       go _ (due.table fault e) = e
       go fault (due.met ps p _ passes meets) = elim meets [ ]
 
-  pub drop-stateless : ((dropping n t buffer version).reply ≡ Graph Malformed First) ↔ ((opened n t ≡ Accepted) × HoldsNone n t buffer)
+  pub drop-stateless : ((dropping n t buffer version).reply ≡ Graph Malformed First) ↔ ((opened n t ≡ Ok tt) × HoldsNone n t buffer)
   drop-stateless = (
     λ e. go ((drop_exact n t buffer version (Graph Malformed First)).0 e),
     λ (opens, nothing). (drop_exact n t buffer version (Graph Malformed First)).1 (due.no-state opens nothing),
   )
     where
-      go : DropDue n t buffer version (Graph Malformed First) → (opened n t ≡ Accepted) × HoldsNone n t buffer
+      go : DropDue n t buffer version (Graph Malformed First) → (opened n t ≡ Ok tt) × HoldsNone n t buffer
       go (due.no-state opens nothing) = (opens, nothing)
       go (due.met ps p _ passes meets) = elim meets [ ]
 
   pub drop-numbered : ((dropping n t buffer version).reply ≡ WrongVersion) ↔
-      ((opened n t ≡ Accepted) × ((ps : Programs) × Holds n t buffer ps × ((15 < version) ⊎ (get_or ps version none ≡ none))))
+      ((opened n t ≡ Ok tt) × ((ps : Programs) × Holds n t buffer ps × ((15 < version) ⊎ (get_or ps version none ≡ none))))
   drop-numbered = (
     λ e. go ((drop_exact n t buffer version WrongVersion).0 e),
     λ (opens, (ps, holds, wrong)). (drop_exact n t buffer version WrongVersion).1 (due.numbered ps opens holds wrong),
   )
     where
       go : DropDue n t buffer version WrongVersion →
-          (opened n t ≡ Accepted) × ((ps : Programs) × Holds n t buffer ps × ((15 < version) ⊎ (get_or ps version none ≡ none)))
+          (opened n t ≡ Ok tt) × ((ps : Programs) × Holds n t buffer ps × ((15 < version) ⊎ (get_or ps version none ≡ none)))
       go (due.numbered ps opens holds wrong) = (opens, (ps, holds, wrong))
       go (due.met ps p _ passes meets) = elim meets [ ]
 
@@ -157,33 +157,33 @@ module _ (n : ℕ) (t buffer : List ℕ) (version : ℕ) where
 
   -- Read.
   module _ (out : List ℕ) where
-    pub read_table : (fault : TableFault) → ((fetching n t buffer version out).reply ≡ Table fault) ↔ (opened n t ≡ Refused fault)
+    pub read_table : (fault : TableFault) → ((fetching n t buffer version out).reply ≡ Table fault) ↔ (opened n t ≡ Err fault)
     read_table fault = (
       λ e. go fault ((read-exact n t buffer version out (Table fault)).0 e),
       λ e. (read-exact n t buffer version out (Table fault)).1 (due.table fault e),
     )
       where
-        go : (fault : TableFault) → ReadDue n t buffer version (length out) (Table fault) → opened n t ≡ Refused fault
+        go : (fault : TableFault) → ReadDue n t buffer version (length out) (Table fault) → opened n t ≡ Err fault
         go _ (due.table fault e) = e
 
-    pub read-stateless : ((fetching n t buffer version out).reply ≡ Graph Malformed First) ↔ ((opened n t ≡ Accepted) × HoldsNone n t buffer)
+    pub read-stateless : ((fetching n t buffer version out).reply ≡ Graph Malformed First) ↔ ((opened n t ≡ Ok tt) × HoldsNone n t buffer)
     read-stateless = (
       λ e. go ((read-exact n t buffer version out (Graph Malformed First)).0 e),
       λ (opens, nothing). (read-exact n t buffer version out (Graph Malformed First)).1 (due.no-state opens nothing),
     )
       where
-        go : ReadDue n t buffer version (length out) (Graph Malformed First) → (opened n t ≡ Accepted) × HoldsNone n t buffer
+        go : ReadDue n t buffer version (length out) (Graph Malformed First) → (opened n t ≡ Ok tt) × HoldsNone n t buffer
         go (due.no-state opens nothing) = (opens, nothing)
 
     pub read-numbered : ((fetching n t buffer version out).reply ≡ WrongVersion) ↔
-        ((opened n t ≡ Accepted) × ((ps : Programs) × Holds n t buffer ps × ((15 < version) ⊎ (get_or ps version none ≡ none))))
+        ((opened n t ≡ Ok tt) × ((ps : Programs) × Holds n t buffer ps × ((15 < version) ⊎ (get_or ps version none ≡ none))))
     read-numbered = (
       λ e. go ((read-exact n t buffer version out WrongVersion).0 e),
       λ (opens, (ps, holds, wrong)). (read-exact n t buffer version out WrongVersion).1 (due.numbered ps opens holds wrong),
     )
       where
         go : ReadDue n t buffer version (length out) WrongVersion →
-            (opened n t ≡ Accepted) × ((ps : Programs) × Holds n t buffer ps × ((15 < version) ⊎ (get_or ps version none ≡ none)))
+            (opened n t ≡ Ok tt) × ((ps : Programs) × Holds n t buffer ps × ((15 < version) ⊎ (get_or ps version none ≡ none)))
         go (due.numbered ps opens holds wrong) = (opens, (ps, holds, wrong))
 
     pub read-shorter : ((fetching n t buffer version out).reply ≡ NoRoom) ↔

@@ -15,15 +15,15 @@ use Rattle.lattice.specs.Label.{Label}
 use Rattle.lattice.specs.Labels.{table_labels}
 use Rattle.lattice.specs.Table.{admits}
 use Rattle.acceptance.specs.declared.TableFault.{TableFault}
-use Rattle.acceptance.specs.declared.Opened.TheVariants.{Accepted, Refused}
+use Rattle.std.specs.Prelude.{Ok, Err}
 use Rattle.acceptance.specs.Reply.{opened}
 use Rattle.encode.specs.Encode.{fitted}
 use Rattle.record.specs.declared.GraphFault.{GraphFault}
 use Rattle.record.specs.declared.GraphFault.TheVariants.{Malformed}
 use Rattle.record.specs.Read.{refused, accepted, reading, graph_of_rows}
 use Rattle.replies.specs.declared.Side.TheVariants.{First, Second}
-use Rattle.replies.specs.declared.Reply.{Reply}
-use Rattle.replies.specs.declared.Reply.TheVariants.{Length, Table, Graph, NoRoom, TooLarge, NoWantedType, WrongVersion, NoStoreRoom}
+use Rattle.replies.specs.Replies.{Reply}
+use Rattle.replies.specs.Replies.{Length, Table, Graph, NoRoom, TooLarge, NoWantedType, WrongVersion, NoStoreRoom}
 use Rattle.replies.specs.Reply.{refusing, result_of, refusal}
 use Rattle.calls.specs.Calls.{rewriting}
 use Rattle.versions.specs.State.{made, stopped, Programs, no_programs, empty_state, state_of, differences, way, held}
@@ -70,7 +70,7 @@ pub way-steps : (n : ℕ) (t : List ℕ) (room : ℕ) (ps : Programs) (s : List 
     (way n t room ps ≡ made s) ↔ ((part : Option (List ℕ)) × Passed n t room ps part s)
 way-steps = Way.way-passes
 
-module _ (n : ℕ) (t : List ℕ) (opens : opened n t ≡ Accepted) where
+module _ (n : ℕ) (t : List ℕ) (opens : opened n t ≡ Ok tt) where
   -- A buffer holds programs exactly where their way in its length ends in its first bytes: `held` decides this.
   pub held-exact : (buffer : List ℕ) (ps : Programs) → (held n t buffer ≡ some ps) ↔ Holds n t buffer ps
   held-exact = Held.held-exact n t opens
@@ -141,7 +141,7 @@ module _ (n : ℕ) (t buffer : List ℕ) (version : ℕ) where
 -- "With one table and nobody else writing the buffer": these theorems are on calls in turn, from an empty store on. `rest` stands behind its two
 -- zero bytes.
 
-module _ (n : ℕ) (t : List ℕ) (opens : opened n t ≡ Accepted) (rest : List ℕ) (short : length rest ≤ 16382) where
+module _ (n : ℕ) (t : List ℕ) (opens : opened n t ≡ Ok tt) (rest : List ℕ) (short : length rest ≤ 16382) where
   abbrev start : List ℕ
   start = empty_state ++ rest
 
@@ -198,7 +198,7 @@ module _ (n : ℕ) (t : List ℕ) (opens : opened n t ≡ Accepted) (rest : List
 -- The same theorems on calls in turn from any buffer that holds programs, such as one that was kept since earlier calls: ps are the programs
 -- that the buffer holds before the calls.
 
-module _ (n : ℕ) (t : List ℕ) (opens : opened n t ≡ Accepted) (buffer : List ℕ) (ps : Programs) (holds : Holds n t buffer ps) (cs : List Call) where
+module _ (n : ℕ) (t : List ℕ) (opens : opened n t ≡ Ok tt) (buffer : List ℕ) (ps : Programs) (holds : Holds n t buffer ps) (cs : List Call) where
   -- "after any calls" the buffer has the same length and holds the remaining programs.
   pub calls-hold-from : (length (buffer_after n t buffer cs) ≡ length buffer) × Holds n t (buffer_after n t buffer cs) (programs_after n t buffer ps cs)
   calls-hold-from = Calls.calls-hold n t opens cs buffer ps holds
@@ -256,7 +256,7 @@ module _ (n : ℕ) (t buffer longer : List ℕ) (ps : Programs) (holds : Holds n
   pub longer-holds : Holds n t longer ps
   longer-holds = Longer.longer-holds n t buffer longer ps holds long lent same
 
-  pub longer-reads : opened n t ≡ Accepted → (version : ℕ) (out : List ℕ) → fetching n t longer version out ≡ fetching n t buffer version out
+  pub longer-reads : opened n t ≡ Ok tt → (version : ℕ) (out : List ℕ) → fetching n t longer version out ≡ fetching n t buffer version out
   longer-reads = Longer.longer-reads n t buffer longer ps holds long lent same
 
   -- A put, and a drop, that is answered by a length is answered by the same length there, and leaves the same used bytes.
@@ -270,7 +270,7 @@ module _ (n : ℕ) (t buffer longer : List ℕ) (ps : Programs) (holds : Holds n
   longer-drop = Longer.longer-drop n t buffer longer ps holds long lent same
 
 -- "Bytes past the used ones may hold anything": these theorems are on two buffers of one length with the same used bytes.
-module _ (n : ℕ) (t : List ℕ) (opens : opened n t ≡ Accepted) (buffer other : List ℕ) (alike : Alike n t buffer other) where
+module _ (n : ℕ) (t : List ℕ) (opens : opened n t ≡ Ok tt) (buffer other : List ℕ) (alike : Alike n t buffer other) where
   -- Both buffers hold the same programs.
   pub past-used : Holds n t other alike.programs
   past-used = Theorems.other-holds n t opens buffer other alike
@@ -296,7 +296,7 @@ module _ (n : ℕ) (t : List ℕ) (opens : opened n t ≡ Accepted) (buffer othe
 
 -- "A put or drop that cannot reach that state is refused with the first number met on that way": over an accepted table, the way of written
 -- records stops with a reply exactly where that reply is the first number met, 11, 13 or 21.
-pub first-number : (n : ℕ) (t : List ℕ) → opened n t ≡ Accepted → (room : ℕ) (ps : Programs) → Versions n ps → (r : Reply) →
+pub first-number : (n : ℕ) (t : List ℕ) → opened n t ≡ Ok tt → (room : ℕ) (ps : Programs) → Versions n ps → (r : Reply) →
     (way n t room ps ≡ stopped r) ↔ Met n t room ps r
 first-number = Stops.way-meets
 
@@ -324,43 +324,43 @@ module _ (n : ℕ) (t buffer : List ℕ) (version : ℕ) where
   read-exact = Exact.read-exact n t buffer version
 
   -- The same, number by number. "The table is checked first": 1 to 3 are given exactly where opening the table gives them.
-  pub put-table : (bytes : List ℕ) (fault : TableFault) → ((putting n t buffer version bytes).reply ≡ Table fault) ↔ (opened n t ≡ Refused fault)
+  pub put-table : (bytes : List ℕ) (fault : TableFault) → ((putting n t buffer version bytes).reply ≡ Table fault) ↔ (opened n t ≡ Err fault)
   put-table = Numbers.put-table n t buffer version
 
-  pub drop-table : (fault : TableFault) → ((dropping n t buffer version).reply ≡ Table fault) ↔ (opened n t ≡ Refused fault)
+  pub drop-table : (fault : TableFault) → ((dropping n t buffer version).reply ≡ Table fault) ↔ (opened n t ≡ Err fault)
   drop-table = Numbers.drop-table n t buffer version
 
-  pub read_table : (out : List ℕ) (fault : TableFault) → ((fetching n t buffer version out).reply ≡ Table fault) ↔ (opened n t ≡ Refused fault)
+  pub read_table : (out : List ℕ) (fault : TableFault) → ((fetching n t buffer version out).reply ≡ Table fault) ↔ (opened n t ≡ Err fault)
   read_table = Numbers.read_table n t buffer version
 
   -- "then the buffer, where one holding no state so reached within its length is 4 of the first graph": 4 of the first graph is given exactly
   -- there.
-  pub put-stateless : (bytes : List ℕ) → ((putting n t buffer version bytes).reply ≡ Graph Malformed First) ↔ ((opened n t ≡ Accepted) × HoldsNone n t buffer)
+  pub put-stateless : (bytes : List ℕ) → ((putting n t buffer version bytes).reply ≡ Graph Malformed First) ↔ ((opened n t ≡ Ok tt) × HoldsNone n t buffer)
   put-stateless = Numbers.put-stateless n t buffer version
 
-  pub drop-stateless : ((dropping n t buffer version).reply ≡ Graph Malformed First) ↔ ((opened n t ≡ Accepted) × HoldsNone n t buffer)
+  pub drop-stateless : ((dropping n t buffer version).reply ≡ Graph Malformed First) ↔ ((opened n t ≡ Ok tt) × HoldsNone n t buffer)
   drop-stateless = Numbers.drop-stateless n t buffer version
 
-  pub read-stateless : (out : List ℕ) → ((fetching n t buffer version out).reply ≡ Graph Malformed First) ↔ ((opened n t ≡ Accepted) × HoldsNone n t buffer)
+  pub read-stateless : (out : List ℕ) → ((fetching n t buffer version out).reply ≡ Graph Malformed First) ↔ ((opened n t ≡ Ok tt) × HoldsNone n t buffer)
   read-stateless = Numbers.read-stateless n t buffer version
 
   -- "then the program's 4 to 7, as the second"
   pub put-program : (bytes : List ℕ) (fault : GraphFault) → ((putting n t buffer version bytes).reply ≡ Graph fault Second) ↔
-      ((opened n t ≡ Accepted) × ((ps : Programs) × Holds n t buffer ps) × (reading n bytes ≡ refused fault))
+      ((opened n t ≡ Ok tt) × ((ps : Programs) × Holds n t buffer ps) × (reading n bytes ≡ refused fault))
   put-program = Numbers.put-program n t buffer version
 
   -- "next a version above 15, or absent for read and drop, or present for put, is 20"
   pub put-wrong-version : (bytes : List ℕ) → ((putting n t buffer version bytes).reply ≡ WrongVersion) ↔
-      ((opened n t ≡ Accepted) × ((rows : List (Row Label)) × (reading n bytes ≡ accepted rows)) ×
+      ((opened n t ≡ Ok tt) × ((rows : List (Row Label)) × (reading n bytes ≡ accepted rows)) ×
       ((ps : Programs) × Holds n t buffer ps × ((15 < version) ⊎ ((p : List ℕ) × (get_or ps version none ≡ some p)))))
   put-wrong-version = Numbers.put-numbered n t buffer version
 
   pub drop-wrong-version : ((dropping n t buffer version).reply ≡ WrongVersion) ↔
-      ((opened n t ≡ Accepted) × ((ps : Programs) × Holds n t buffer ps × ((15 < version) ⊎ (get_or ps version none ≡ none))))
+      ((opened n t ≡ Ok tt) × ((ps : Programs) × Holds n t buffer ps × ((15 < version) ⊎ (get_or ps version none ≡ none))))
   drop-wrong-version = Numbers.drop-numbered n t buffer version
 
   pub read-wrong-version : (out : List ℕ) → ((fetching n t buffer version out).reply ≡ WrongVersion) ↔
-      ((opened n t ≡ Accepted) × ((ps : Programs) × Holds n t buffer ps × ((15 < version) ⊎ (get_or ps version none ≡ none))))
+      ((opened n t ≡ Ok tt) × ((ps : Programs) × Holds n t buffer ps × ((15 < version) ⊎ (get_or ps version none ≡ none))))
   read-wrong-version = Numbers.read-numbered n t buffer version
 
   -- "and on the way, after a step's 11 and 13, too few bytes for its state is 21": each of 11, 13 and 21 is given exactly where the call passes

@@ -12,13 +12,13 @@ use lib.Seq.{append_snoc, set-append_seam, get_or-append_seam, take-append_seam}
 use Rattle.graphs.specs.Number.{Canonical}
 use Rattle.graphs.proofs.Walk.{some-injective}
 use Rattle.lattice.specs.Label.{Label}
-use Rattle.acceptance.specs.declared.Opened.TheVariants.{Accepted}
+use Rattle.std.specs.Prelude.{Ok}
 use Rattle.acceptance.specs.Reply.{opened}
 use Rattle.encoder.specs.Encode.{encoded}
 use Rattle.record.specs.Read.{Reading}
 use Rattle.difference.specs.Difference.{numbered}
-use Rattle.replies.specs.declared.Reply.{Reply}
-use Rattle.replies.specs.declared.Reply.TheVariants.{WrongVersion}
+use Rattle.replies.specs.Replies.{Reply}
+use Rattle.replies.specs.Replies.{WrongVersion}
 use Rattle.replies.specs.Reply.{Result, refusing, length_of}
 use Rattle.demands.specs.Demand.{WrittenRecord}
 use Rattle.versions.specs.State.{Made, made, stopped, and_then, Programs, empty_state, stored, joined, way_from, way}
@@ -52,7 +52,7 @@ module _ (n : ℕ) (t : List ℕ) where
   from-emptied room [] behind part state = refl
   from-emptied room (p ∷ ahead) behind part state = from-emptied room ahead (behind ++ none ∷ []) part state
 
-  module _ (opens : opened n t ≡ Accepted) where
+  module _ (opens : opened n t ≡ Ok tt) where
     -- A put under a number behind all programs goes their way and one step more.
     put_last : (room : ℕ) (ahead behind : Programs) (buffer : List ℕ) (version : ℕ) → length buffer ≡ room → version ≡ length behind → version < 16 →
         Holds n t buffer (behind ++ none ∷ emptied ahead) → (p : List ℕ) → WrittenRecord n p →

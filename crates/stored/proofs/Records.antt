@@ -9,15 +9,15 @@ use lib.ListN.{length, take}
 use Rattle.graphs.specs.Number.{canonical, written}
 use Rattle.graphs.specs.Rows.{Row}
 use Rattle.lattice.specs.Label.{Label}
-use Rattle.acceptance.specs.declared.Opened.TheVariants.{Accepted}
+use Rattle.std.specs.Prelude.{Ok}
 use Rattle.acceptance.specs.Reply.{opened}
 use Rattle.encoder.specs.Encode.{encoded}
 use Rattle.encode.specs.Encode.{fitted}
 use Rattle.record.specs.Read.{reading, accepted, graph_of_rows}
 use Rattle.record.proofs.Theorems.{accepted-fits, written-accepted}
 use Rattle.difference.specs.Difference.{numbered}
-use Rattle.replies.specs.declared.Reply.{Reply}
-use Rattle.replies.specs.declared.Reply.TheVariants.{Length}
+use Rattle.replies.specs.Replies.{Reply}
+use Rattle.replies.specs.Replies.{Length}
 use Rattle.replies.specs.Reply.{Result, result_of, length_of}
 use Rattle.calls.specs.Calls.{generalizing, unifying, differing}
 use Rattle.demands.specs.Demand.{WrittenRecord, Leaves}
@@ -84,7 +84,7 @@ module _ (n : ℕ) (t a b c : List ℕ) where
   difference-written e = taken-written n blank (differing n t a b blank) c (differing-leaves n t blank a b) e
 
 -- A difference that is made, combined with the common part, gives the program.
-pub difference-restored : (n : ℕ) (t part p d : List ℕ) → opened n t ≡ Accepted → WrittenRecord n part → WrittenRecord n p →
+pub difference-restored : (n : ℕ) (t part p d : List ℕ) → opened n t ≡ Ok tt → WrittenRecord n part → WrittenRecord n p →
     difference_of n t part p ≡ made d → combination n t d part ≡ made p
 unfolding difference_of combination
 difference-restored n t part p d opens one other e =

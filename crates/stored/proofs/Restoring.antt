@@ -8,7 +8,7 @@ use native.Mathlib.Omega.{arith}
 use borrow.Author.Tests.{ne_eqb}
 use lib.ListN.{length, get_or, replicate}
 use lib.Seq.{append_snoc}
-use Rattle.acceptance.specs.declared.Opened.TheVariants.{Accepted}
+use Rattle.std.specs.Prelude.{Ok}
 use Rattle.acceptance.specs.Reply.{opened}
 use Rattle.gathering.proofs.Spans.{two-bytes-read}
 use Rattle.demands.specs.Demand.{WrittenRecord}
@@ -50,7 +50,7 @@ map-zero (none ∷ ps) e = ap (λ (qs : Programs). none ∷ qs) (map-zero ps (om
 map-zero (some p ∷ ps) e = absurd (omega arith)
 
 module _ (n : ℕ) (t : List ℕ) where
-  module _ (opens : opened n t ≡ Accepted) (part : List ℕ) (one : WrittenRecord n part) where
+  module _ (opens : opened n t ≡ Ok tt) (part : List ℕ) (one : WrittenRecord n part) where
     -- The differences of programs from a common part give these programs, behind those that are restored already.
     restored-behind : (before ps : Programs) → ((v : ℕ) (p : List ℕ) → get_or ps v none ≡ some p → WrittenRecord n p) → (ds rest : List ℕ) →
         differences n t part ps ≡ made ds → restored_on n t before part (length ps) (map_of ps) (ds ++ rest) ≡ some (before ++ ps)

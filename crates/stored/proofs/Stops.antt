@@ -18,7 +18,7 @@ use Rattle.graphs.specs.OfRows.{same_pair}
 use Rattle.graphs.proofs.Below.{same_refl}
 use Rattle.graphs.proofs.Difference.ByNumber.{by-number-order}
 use Rattle.lattice.specs.Label.{Label}
-use Rattle.acceptance.specs.declared.Opened.TheVariants.{Accepted}
+use Rattle.std.specs.Prelude.{Ok}
 use Rattle.acceptance.specs.Reply.{opened}
 use Rattle.lattice.specs.Table.{admits}
 use Rattle.lattice.specs.Labels.{table_labels}
@@ -26,8 +26,8 @@ use Rattle.acceptance.proofs.Acceptance.{opened-accepted}
 use Rattle.lattice.proofs.AnySize.{below-transitive}
 use Rattle.record.specs.Read.{reading, accepted, graph_of_rows}
 use Rattle.record.proofs.Theorems.{accepted-of-any-size}
-use Rattle.replies.specs.declared.Reply.{Reply}
-use Rattle.replies.specs.declared.Reply.TheVariants.{TooLarge, NoWantedType, NoStoreRoom}
+use Rattle.replies.specs.Replies.{Reply}
+use Rattle.replies.specs.Replies.{TooLarge, NoWantedType, NoStoreRoom}
 use Rattle.replies.specs.Reply.{Result, length_of}
 use Rattle.engine.specs.Generalizing.{generalized}
 use Rattle.calls.specs.Calls.{generalizing, differing}
@@ -160,7 +160,7 @@ module _ (n : ℕ) (t a b : List ℕ) (g h : List (Row Label)) (given : Given n 
     difference-unwanted lacks =
         stopped-taken (differing n t a b blank) NoWantedType refl ((difference-not-wanted n t a b g h given blank).1 (below, lacks))
 
-module _ (n : ℕ) (t : List ℕ) (opens : opened n t ≡ Accepted) where
+module _ (n : ℕ) (t : List ℕ) (opens : opened n t ≡ Ok tt) where
   both : {a b : List ℕ} (x : WrittenRecord n a) (y : WrittenRecord n b) → Given n t a b x.form y.form
   both x y = record { opens = opens; first = x.reads; second = y.reads }
 

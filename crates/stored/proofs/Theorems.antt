@@ -9,6 +9,7 @@ use native.Mathlib.Omega.{arith}
 use lib.Dec.{eqb, ltb, leb}
 use lib.ListN.{length, get_or, set, take, drop, take-append-drop}
 use lib.Seq.{get_or-set_same, get_or-set_other, take-append_seam, drop-append_seam}
+use Rattle.std.specs.Prelude.{Ok, Err}
 use Rattle.graphs.specs.Graph.{SameMeaning}
 use Rattle.graphs.specs.Rows.{Row}
 use Rattle.graphs.specs.Number.{Canonical, canonical, written}
@@ -16,16 +17,15 @@ use Rattle.graphs.proofs.Walk.{some-injective}
 use Rattle.lattice.specs.Label.{Label}
 use Rattle.lattice.specs.Labels.{table_labels}
 use Rattle.lattice.specs.Table.{admits}
-use Rattle.acceptance.specs.declared.Opened.TheVariants.{Accepted}
 use Rattle.acceptance.specs.Reply.{opened}
 use Rattle.encoder.specs.Encode.{encoded}
-use Rattle.encode.specs.declared.Written.TheVariants as outcome
+use Rattle.encode.specs.declared.Unwritten.TheVariants as unwritten
 use Rattle.encode.specs.Encode.{fitted, yielding, written_out}
 use Rattle.record.specs.Read.{Reading, refused, accepted, reading, graph_of_rows}
 use Rattle.record.proofs.Theorems.{accepted-fits}
 use Rattle.difference.specs.Difference.{numbered}
-use Rattle.replies.specs.declared.Reply.{Reply}
-use Rattle.replies.specs.declared.Reply.TheVariants.{Length, NoWantedType, WrongVersion}
+use Rattle.replies.specs.Replies.{Reply}
+use Rattle.replies.specs.Replies.{Length, NoWantedType, WrongVersion}
 use Rattle.replies.specs.Reply.{Result, refusing, result_of, refusal}
 use Rattle.calls.specs.Calls.{rewriting}
 use Rattle.demands.specs.Demand.{WrittenRecord}
@@ -48,7 +48,7 @@ use Rattle.stored.proofs.Exact.{put-versions, drop-versions, put-goes, drop-goes
 use Rattle.stored.proofs.Kept.{gone, kept-program, program-kept}
 
 -- The record that is read back is what rewriting the program gives.
-written-record : (n : ℕ) (t bytes : List ℕ) (rows : List (Row Label)) → opened n t ≡ Accepted → reading n bytes ≡ accepted rows → (out : List ℕ) →
+written-record : (n : ℕ) (t bytes : List ℕ) (rows : List (Row Label)) → opened n t ≡ Ok tt → reading n bytes ≡ accepted rows → (out : List ℕ) →
     rewriting n t bytes out ≡ result_of (fitted (written_record rows) out)
 unfolding written_out
 written-record n t bytes rows opens reads out =
@@ -70,8 +70,8 @@ unfolding fitted
 given-refused out (made p) k e = go (leb (length p) (length out)) e
   where
     go : (b : Bool) →
-        refusal (result_of (cond b (yielding (outcome.Length (length p)) (p ++ drop (length p) out)) (yielding outcome.NoRoom out))).reply ≡ some k →
-        (result_of (cond b (yielding (outcome.Length (length p)) (p ++ drop (length p) out)) (yielding outcome.NoRoom out))).output ≡ out
+        refusal (result_of (cond b (yielding (Ok (length p)) (p ++ drop (length p) out)) (yielding (Err unwritten.NoRoom) out))).reply ≡ some k →
+        (result_of (cond b (yielding (Ok (length p)) (p ++ drop (length p) out)) (yielding (Err unwritten.NoRoom) out))).output ≡ out
     go true d = none-some d
     go false d = refl
 given-refused out (stopped r) k e = refl
@@ -206,7 +206,7 @@ module _ (n : ℕ) (t : List ℕ) where
         go (due.met ps p _ passes meets) =
             never_met n t passes.opens (length buffer) (set ps version none) (drop-versions n t buffer version ps p passes) differ meets
 
-  module _ (opens : opened n t ≡ Accepted) where
+  module _ (opens : opened n t ≡ Ok tt) where
     -- A buffer holds one list of programs.
     pub holds-one : (buffer : List ℕ) (ps qs : Programs) → Holds n t buffer ps → Holds n t buffer qs → ps ≡ qs
     holds-one buffer ps qs one other =

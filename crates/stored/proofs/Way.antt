@@ -10,10 +10,10 @@ use borrow.Author.Tests.{le-leb, leb-true}
 use lib.Dec.{leb}
 use lib.ListN.{length, get_or, replicate}
 use lib.Seq.{append_snoc, get_or-append_seam}
-use Rattle.acceptance.specs.declared.Opened.TheVariants.{Accepted}
+use Rattle.std.specs.Prelude.{Ok}
 use Rattle.acceptance.specs.Reply.{opened}
 use Rattle.demands.specs.Demand.{WrittenRecord}
-use Rattle.replies.specs.declared.Reply.TheVariants.{NoStoreRoom}
+use Rattle.replies.specs.Replies.{NoStoreRoom}
 use Rattle.gathering.proofs.Told.{none-some}
 use Rattle.versions.specs.State.{
   Made,
@@ -190,7 +190,7 @@ module _ (n : ℕ) (t : List ℕ) where
   pub state-fits : (room : ℕ) (ps : Programs) → Versions n ps → (b : List ℕ) → way n t room ps ≡ made b → 2 ≤ room → length b ≤ room
   state-fits room ps versions b reached = at-fits (way_at room ps versions b reached).1
 
-  module _ (opens : opened n t ≡ Accepted) where
+  module _ (opens : opened n t ≡ Ok tt) where
     at-unpacked : (room : ℕ) (ps : Programs) (last : Option (List ℕ)) (b rest : List ℕ) → Versions n ps → At room ps last b →
         unpacked n t (b ++ rest) ≡ some ps
     unfolding unpacked stored

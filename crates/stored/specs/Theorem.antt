@@ -1,19 +1,18 @@
 -- Definitions for the theorems on stores: which programs a store may have, when a buffer holds programs, where a way ends or which number is met
 -- first on it, and when each reply of a call is due.
-use Rattle.std.specs.Prelude.{◌≡◌, List, [], ◌∷◌, ◌++◌, ◌⊎◌, ℕ, ◌≤◌, ◌<◌, length, take, drop, get_or, set}
+use Rattle.std.specs.Prelude.{◌≡◌, List, [], ◌∷◌, ◌++◌, ◌⊎◌, ℕ, ◌≤◌, ◌<◌, length, take, drop, get_or, set, Ok, Err}
 use Rattle.std.proofs.Math.Option.{Option, none, some}
 use Rattle.graphs.specs.Rows.{Row}
 use Rattle.lattice.specs.Label.{Label}
 use Rattle.demands.specs.Wanted.{SomeUnwanted}
 use Rattle.acceptance.specs.declared.TableFault.{TableFault}
-use Rattle.acceptance.specs.declared.Opened.TheVariants.{Accepted, Refused}
 use Rattle.acceptance.specs.Reply.{opened}
 use Rattle.record.specs.declared.GraphFault.{GraphFault}
 use Rattle.record.specs.declared.GraphFault.TheVariants.{Malformed}
 use Rattle.record.specs.Read.{reading, accepted, refused, graph_of_rows}
 use Rattle.replies.specs.declared.Side.TheVariants.{First, Second}
-use Rattle.replies.specs.declared.Reply.{Reply}
-use Rattle.replies.specs.declared.Reply.TheVariants.{Length, Table, Graph, NoRoom, TooLarge, NoWantedType, WrongVersion, NoStoreRoom}
+use Rattle.replies.specs.Replies.{Reply}
+use Rattle.replies.specs.Replies.{Length, Table, Graph, NoRoom, TooLarge, NoWantedType, WrongVersion, NoStoreRoom}
 use Rattle.demands.specs.Demand.{WrittenRecord, Large, common}
 use Rattle.versions.specs.State.{made, Programs, empty_state, state_of, differences, stored, joined, way}
 use Rattle.contents.specs.Contents.{written_record}
@@ -74,7 +73,7 @@ pub data Met (n : ℕ) (t : List ℕ) (room : ℕ) (ps : Programs) : Reply → T
 -- A put passes the checks before its way: the table is accepted, the buffer holds programs, the program is accepted, and the version number is
 -- "from 0 to 15" and "absent".
 pub record PutChecked (n : ℕ) (t buffer : List ℕ) (version : ℕ) (bytes : List ℕ) (ps : Programs) (rows : List (Row Label)) : Type 0 where
-  pub opens : opened n t ≡ Accepted
+  pub opens : opened n t ≡ Ok tt
   pub holds : Holds n t buffer ps
   pub reads : reading n bytes ≡ accepted rows
   pub numbered : version < 16
@@ -82,7 +81,7 @@ pub record PutChecked (n : ℕ) (t buffer : List ℕ) (version : ℕ) (bytes : L
 
 -- A drop or a read passes its checks: the table is accepted, the buffer holds programs, and the version is one of them.
 pub record VersionChecked (n : ℕ) (t buffer : List ℕ) (version : ℕ) (ps : Programs) (p : List ℕ) : Type 0 where
-  pub opens : opened n t ≡ Accepted
+  pub opens : opened n t ≡ Ok tt
   pub holds : Holds n t buffer ps
   pub present : get_or ps version none ≡ some p
 
@@ -107,14 +106,14 @@ module _ (n : ℕ) (t buffer : List ℕ) (version : ℕ) where
   -- The replies of a put.
   pub data PutDue (bytes : List ℕ) : Reply → Type 0 where
     -- 1 to 3: "The table is checked first".
-    table : (fault : TableFault) → opened n t ≡ Refused fault → PutDue bytes (Table fault)
+    table : (fault : TableFault) → opened n t ≡ Err fault → PutDue bytes (Table fault)
     -- 4: "then the buffer, where one holding no state so reached within its length is 4 of the first graph".
-    no-state : opened n t ≡ Accepted → HoldsNone n t buffer → PutDue bytes (Graph Malformed First)
+    no-state : opened n t ≡ Ok tt → HoldsNone n t buffer → PutDue bytes (Graph Malformed First)
     -- 4 to 7: "then the program's 4 to 7, as the second".
-    program : (ps : Programs) (fault : GraphFault) → opened n t ≡ Accepted → Holds n t buffer ps → reading n bytes ≡ refused fault →
+    program : (ps : Programs) (fault : GraphFault) → opened n t ≡ Ok tt → Holds n t buffer ps → reading n bytes ≡ refused fault →
         PutDue bytes (Graph fault Second)
     -- 20: "next a version above 15, or .. present for put, is 20".
-    numbered : (ps : Programs) (rows : List (Row Label)) → opened n t ≡ Accepted → Holds n t buffer ps → reading n bytes ≡ accepted rows →
+    numbered : (ps : Programs) (rows : List (Row Label)) → opened n t ≡ Ok tt → Holds n t buffer ps → reading n bytes ≡ accepted rows →
         (15 < version) ⊎ ((p : List ℕ) × (get_or ps version none ≡ some p)) → PutDue bytes WrongVersion
     -- 11, 13 and 21: "refused with the first number met on that way".
     met : (ps : Programs) (rows : List (Row Label)) (r : Reply) → PutChecked n t buffer version bytes ps rows →
@@ -126,11 +125,11 @@ module _ (n : ℕ) (t buffer : List ℕ) (version : ℕ) where
   -- The replies of a drop.
   pub data DropDue : Reply → Type 0 where
     -- 1 to 3
-    table : (fault : TableFault) → opened n t ≡ Refused fault → DropDue (Table fault)
+    table : (fault : TableFault) → opened n t ≡ Err fault → DropDue (Table fault)
     -- 4 of the first graph
-    no-state : opened n t ≡ Accepted → HoldsNone n t buffer → DropDue (Graph Malformed First)
+    no-state : opened n t ≡ Ok tt → HoldsNone n t buffer → DropDue (Graph Malformed First)
     -- 20: "a version above 15, or absent for read and drop".
-    numbered : (ps : Programs) → opened n t ≡ Accepted → Holds n t buffer ps → (15 < version) ⊎ (get_or ps version none ≡ none) → DropDue WrongVersion
+    numbered : (ps : Programs) → opened n t ≡ Ok tt → Holds n t buffer ps → (15 < version) ⊎ (get_or ps version none ≡ none) → DropDue WrongVersion
     -- 11, 13 and 21
     met : (ps : Programs) (p : List ℕ) (r : Reply) → VersionChecked n t buffer version ps p → Met n t (length buffer) (set ps version none) r → DropDue r
     -- the used length
@@ -140,11 +139,11 @@ module _ (n : ℕ) (t buffer : List ℕ) (version : ℕ) where
   -- The replies of a read with an output of so many bytes.
   pub data ReadDue (room : ℕ) : Reply → Type 0 where
     -- 1 to 3
-    table : (fault : TableFault) → opened n t ≡ Refused fault → ReadDue room (Table fault)
+    table : (fault : TableFault) → opened n t ≡ Err fault → ReadDue room (Table fault)
     -- 4 of the first graph
-    no-state : opened n t ≡ Accepted → HoldsNone n t buffer → ReadDue room (Graph Malformed First)
+    no-state : opened n t ≡ Ok tt → HoldsNone n t buffer → ReadDue room (Graph Malformed First)
     -- 20
-    numbered : (ps : Programs) → opened n t ≡ Accepted → Holds n t buffer ps → (15 < version) ⊎ (get_or ps version none ≡ none) → ReadDue room WrongVersion
+    numbered : (ps : Programs) → opened n t ≡ Ok tt → Holds n t buffer ps → (15 < version) ⊎ (get_or ps version none ≡ none) → ReadDue room WrongVersion
     -- 8: "the result exists and the output is shorter" (document 01).
     shorter : (ps : Programs) (p : List ℕ) → VersionChecked n t buffer version ps p → room < length p → ReadDue room NoRoom
     -- the record's length

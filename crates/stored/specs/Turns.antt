@@ -3,8 +3,8 @@
 use Rattle.std.specs.Prelude.{◌≡◌, List, [], ◌∷◌, ℕ, suc, take, set}
 use Rattle.std.proofs.Math.Option.{Option, none, some}
 use Rattle.record.specs.Read.{Reading, refused, accepted, reading}
-use Rattle.replies.specs.declared.Reply.{Reply}
-use Rattle.replies.specs.declared.Reply.TheVariants.{Length}
+use Rattle.replies.specs.Replies.{Reply}
+use Rattle.replies.specs.Replies.{Length}
 use Rattle.replies.specs.Reply.{Result, resulting, length_of}
 use Rattle.versions.specs.State.{Made, made, stopped, Programs}
 use Rattle.contents.specs.Contents.{written_record}

@@ -13,7 +13,7 @@ use lib.ListN.{length, get_or, set, length-set}
 use lib.Seq.{get_or-set_same, get_or-set_other}
 use Rattle.layout.specs.Layout.{scale, size, links_from, row_end, feature_at, target_at, Node, Recorded}
 use Rattle.layout.proofs.Spans.{features-rise}
-use Rattle.subsume.specs.Following.{Sought, Queued, Meets, Comes, Clash, Followed, Follows, unmapped}
+use Rattle.subsume.specs.Following.{Sought, Queued, Meets, Comes, Clash, Followed, unmapped}
 use Rattle.subsume.specs.Following.Comes.{kept, led}
 use Rattle.subsume.specs.Following.Clash.{lacks, splits}
 
@@ -185,15 +185,10 @@ module _ {s g : List ℕ} {u v : ℕ} where
       }
 
   pub following-done : {map queue later longer : List ℕ} {count k j more : ℕ} → Following s g u v map queue count later longer k j more →
-      row_end g v ≤ k → Follows s g u v map queue count later longer more
+      row_end g v ≤ k → Followed s g u v map queue count later longer more (row_end g v)
   following-done {map} {queue} {later} {longer} {count} {k} {j} {more} f h =
       let e : k ≡ row_end g v = omega (arith, f.high) in
-      let done : Followed s g u v map queue count later longer more (row_end g v) =
-      subst (λ (i : ℕ). Followed s g u v map queue count later longer more i) e f.followed in
-      record { goes = λ _. done; fails = λ over. absurd (omega (arith, f.followed.queued.counted)) }
-
-  pub fails : {map queue later longer : List ℕ} {count : ℕ} → Clash s g u v map → Follows s g u v map queue count later longer 256
-  fails c = record { goes = λ h. absurd (omega arith); fails = λ _. c }
+      subst (λ (i : ℕ). Followed s g u v map queue count later longer more i) e f.followed
 
   module _ {map queue later longer : List ℕ} {count k j more : ℕ} (f : Following s g u v map queue count later longer k j more)
       (inside : k < row_end g v) {place : ℕ} (sought : Sought s j (row_end s u) (feature_at g k) place) where

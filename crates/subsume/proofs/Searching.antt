@@ -11,14 +11,13 @@ use borrow.Author.Tests.{eq-eqb}
 use lib.ListN.{length, get_or, set, replicate, length-set, length-replicate, get_or-replicate}
 use lib.Seq.{get_or-set_same, get_or-set_other}
 use Rattle.graphs.specs.Graph.{Graph, Below, walk, follow}
-use Rattle.graphs.specs.Map.{NodeMap}
 use Rattle.graphs.proofs.Walk.{some-injective, some-unique, snoc-induction, follow-last, walk-snoc}
 use Rattle.graphs.proofs.Below.{below-labels}
 use Rattle.lattice.specs.Labels.{table_labels, Known}
 use Rattle.lattice.specs.Label.{Label}
 use Rattle.layout.specs.Layout.{size, links_from, row_end, label_at, feature_at, target_at, rows_of, graph_in, Recorded}
 use Rattle.layout.proofs.Places.{label-at, link-at, link-place}
-use Rattle.subsume.specs.declared.Order.TheVariants as order
+use Rattle.std.specs.Prelude.{None, Some}
 use Rattle.subsume.specs.Promise.{Orders}
 use Rattle.subsume.specs.Following.{Queued, Meets, Comes, Clash, Followed, unmapped}
 use Rattle.subsume.specs.Following.Comes.{kept, led}
@@ -192,7 +191,7 @@ module _ {t s g : List ℕ} where
               let (low, few, x) = link-mapped v w a h d l in
               (low, λ z. omega arith)
 
-      node-map : (n : ℕ) → NodeMap (table_labels n t) (graph_in s) (graph_in g) (λ v. get_or map v 0)
+      pub node-map : (n : ℕ) → Orders n t (rows_of s) (rows_of g) (Some map)
       node-map n =
           record {
             root = f.rooted;
@@ -202,15 +201,6 @@ module _ {t s g : List ℕ} where
                 ap₂ (table_labels n t).le (label-at s (get_or map v 0) (f.image v h d)) (label-at g v (f.inside v h d)) ∙
                 (mapped-passed v h d).ordered n;
           }
-
-      pub order-yes : (n : ℕ) → Orders n t (rows_of s) (rows_of g) order.Below map
-      order-yes n =
-          record { yes-stands = λ _. node-map n; no-stands = λ e b. let z : ◌≡◌ {A = ℕ} 0 1 = cc in omega arith }
-
-    order-no : {n : ℕ} {answer : List ℕ} → (Below (table_labels n t) (graph_in s) (graph_in g) → ⊥) →
-        Orders n t (rows_of s) (rows_of g) order.NotBelow answer
-    order-no never =
-        record { yes-stands = λ e. let z : ◌≡◌ {A = ℕ} 0 1 = cc in absurd (omega arith); no-stands = λ _. never }
 
     -- Facts on the next node of the queue.
     module _ (next : head < count) where
@@ -244,10 +234,9 @@ module _ {t s g : List ℕ} where
           }
 
       -- If the next node's label is not above that of its image, s is not below g.
-      pub order-label : (n : ℕ) {answer : List ℕ} → (table_labels n t).le (label_at s u) (label_at g v) ≡ false →
-          Orders n t (rows_of s) (rows_of g) order.NotBelow answer
+      pub order-label : (n : ℕ) → (table_labels n t).le (label_at s u) (label_at g v) ≡ false → Orders n t (rows_of s) (rows_of g) None
       order-label n e =
-          order-no λ b. label-refutes (graph_in s) (graph_in g) n t b both (ap₂ (table_labels n t).le (label-at s u image-in) (label-at g v node_in) ∙ e)
+          λ b. label-refutes (graph_in s) (graph_in g) n t b both (ap₂ (table_labels n t).le (label-at s u image-in) (label-at g v node_in) ∙ e)
 
       come-together : {w x : ℕ} → w < 255 → Comes s g u v map w x →
           Together (graph_in s) (graph_in g) w x
@@ -258,15 +247,14 @@ module _ {t s g : List ℕ} where
           (ap (λ (i : ℕ). (graph_in s).link u i) (sym m.feature) ∙ link-at f.lower.sound u j image-in m.s-low m.s-high ∙ ap some b)
 
       -- If the next node's links clash, s is not below g.
-      pub order-clash : (n : ℕ) {answer : List ℕ} → Clash s g u v map →
-          Orders n t (rows_of s) (rows_of g) order.NotBelow answer
+      pub order-clash : (n : ℕ) → Clash s g u v map → Orders n t (rows_of s) (rows_of g) None
       order-clash n (lacks k low high never) =
-          order-no λ b.
+          λ b.
           lack-refutes (graph_in s) (graph_in g) n t b (feature_at g k) both (link-at f.upper.sound v k node_in low high)
           λ x e.
           let (j, a, c, same, to) = link-place f.lower.sound u (feature_at g k) x image-in e in
           never j a c same
-      order-clash n (splits w x y h c d never) = order-no λ b. split-refutes (graph_in s) (graph_in g) n t b (come-together h c) (come-together h d) never
+      order-clash n (splits w x y h c d never) = λ b. split-refutes (graph_in s) (graph_in g) n t b (come-together h c) (come-together h d) never
 
       -- If the next node's label is above that of its image and its links are followed, the node is passed.
       pub searched-on : {later longer : List ℕ} {more : ℕ} → ((n : ℕ) → (table_labels n t).le (label_at s u) (label_at g v) ≡ true) →

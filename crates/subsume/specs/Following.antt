@@ -1,6 +1,6 @@
 -- What holds while the links of one node are followed. A map takes nodes of g to nodes of s, and has 65535 where a node is not mapped; a queue
 -- has the nodes that are mapped.
-use Rattle.std.specs.Prelude.{◌≡◌, cond, List, [], ◌∷◌, ℕ, suc, ◌+◌, ◌≤◌, ◌<◌, eqb, length, get_or}
+use Rattle.std.specs.Prelude.{◌≡◌, cond, List, [], ◌∷◌, ℕ, suc, ◌+◌, ◌≤◌, ◌<◌, eqb, length, get_or, Option, None, Some}
 use Rattle.layout.specs.Layout.{links_from, row_end, feature_at, target_at}
 
 -- `place` is the first place from `at` on whose feature is at least f, or `end` where there is none.
@@ -53,7 +53,7 @@ module _ (s g : List ℕ) (u v : ℕ) where
     pub comes : (w : ℕ) → w < 255 → (get_or later w 0 ≡ 65535 → ⊥) → Comes s g u v map w (get_or later w 0)
     pub leads : (k : ℕ) → links_from g v ≤ k → k < end → (j : ℕ) × Meets s g u v k j × (get_or later (target_at g k) 0 ≡ target_at s j)
 
-  -- `more` is the new length of the queue, or 256 for a clash.
-  pub record Follows (map queue : List ℕ) (count : ℕ) (later longer : List ℕ) (more : ℕ) : Type 0 where
-    pub goes : more ≤ 255 → Followed map queue count later longer more (row_end g v)
-    pub fails : 255 < more → Clash s g u v map
+  -- The answer is the new length of the queue, or none for a clash.
+  abbrev pub Follows : (map queue : List ℕ) (count : ℕ) (later longer : List ℕ) → Option ℕ → Type 0
+  Follows map queue count later longer None = Clash s g u v map
+  Follows map queue count later longer (Some more) = Followed map queue count later longer more (row_end g v)

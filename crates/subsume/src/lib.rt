@@ -12,21 +12,8 @@ ghost use Rattle.subsume.specs.Promise.{Orders};
 
 use layout::Label;
 
-// Whether the first graph is below the second.
-#[derive(Clone, Copy)]
-pub enum Order {
-    Below,
-    NotBelow,
-}
-
-// The answer, and beside `Below` the node of s that each node of g is mapped to.
-#[derive(Clone, Copy)]
-pub struct Ordered {
-    pub order: Order,
-    pub map: [u16; 255],
-}
-
-// The entry in the map of a node that is not mapped.
+// The entry in the map of a node that is not mapped. A word and no `Option`: `NodeMap` in `Orders` reads the words of the map as nodes of s, and so
+// do `wanting` and `cover`, to which the map is handed on.
 pub const NONE: u16 = 0xFFFF;
 
 // The first place from `at` on whose feature is at least f; `end` where there is none.
@@ -35,18 +22,17 @@ pub fn seek(graph: &[u16], at: usize, end: usize, f: u16) -> usize
     ensures { Sought graph.now at end f result }
 {
     let least = f * layout::SCALE;
-    let mut k = at;
-    while k < end {
+    // The place k is needed: it is the answer.
+    for k in at..end {
         if least <= graph[k] {
             return k;
         }
-        k += 1;
     }
-    k
+    end
 }
 
-// Maps the targets of v's links, where v is mapped to u. Answers the new length of the queue, or 256 where s lacks a link or a node of g would be
-// mapped to two nodes of s.
+// Maps the targets of v's links, where v is mapped to u. Answers the new length of the queue, or `None` where s lacks a link or a node of g would
+// be mapped to two nodes of s.
 fn follow<'a>(
     s: &'a [u16],
     g: &'a [u16],
@@ -55,27 +41,24 @@ fn follow<'a>(
     map: &mut [u16; 255],
     queue: &mut [u16; 255],
     count: usize,
-) -> usize
+) -> Option<usize>
     requires recorded { Recorded s.now × (u < size s.now) }
     requires recorded_2 { Recorded g.now × (v < size g.now) }
     requires queued { Queued map.old queue.old count }
     ensures { Follows s.now g.now u v map.old queue.old count map.new queue.new result }
 {
-    let mut k = layout::links_from(g, v);
-    let g_end = g[v + 2] as usize;
     let mut j = layout::links_from(s, u);
     let s_end = s[u + 2] as usize;
     let mut end = count;
-    while k < g_end {
-        let link = g[k];
+    for &link in layout::links(g, v) {
         let f = layout::feature(link);
         j = seek(s, j, s_end, f);
         if s_end <= j {
-            return 256;
+            return None;
         }
         let found = s[j];
         if layout::feature(found) != f {
-            return 256;
+            return None;
         }
         let w = layout::target(link);
         let x = layout::target(found) as u16;
@@ -86,12 +69,11 @@ fn follow<'a>(
             end += 1;
         } else {
             if image != x {
-                return 256;
+                return None;
             }
         }
-        k += 1;
     }
-    end
+    Some(end)
 }
 
 // Whether a label is below another: its type is, and its range lies inside.
@@ -108,10 +90,10 @@ pub fn is_label_below(table: &[u8], a: Label, b: Label) -> bool
     lattice::words::is_below(table, a.kind as usize, b.kind as usize)
 }
 
-// Whether s lies below g, and the map of g's nodes to those of s where it does.
-pub fn subsume<'a>(table: &'a [u8], s: &'a [u16], g: &'a [u16]) -> Ordered
+// The map of g's nodes to those of s where s lies below g, and `None` where it does not.
+pub fn subsume<'a>(table: &'a [u8], s: &'a [u16], g: &'a [u16]) -> Option<[u16; 255]>
     requires { Recorded s.now × Recorded g.now }
-    ensures { (n : ℕ) → Orders n table.now (rows_of s.now) (rows_of g.now) result.order result.map }
+    ensures { (n : ℕ) → Orders n table.now (rows_of s.now) (rows_of g.now) result }
 {
     let mut map = [NONE; 255];
     let mut queue = [0u16; 255];
@@ -124,22 +106,10 @@ pub fn subsume<'a>(table: &'a [u8], s: &'a [u16], g: &'a [u16]) -> Ordered
         let a = layout::label_at(s, u);
         let b = layout::label_at(g, v);
         if !is_label_below(table, a, b) {
-            return Ordered {
-                order: Order::NotBelow,
-                map: map,
-            };
+            return None;
         }
-        count = follow(s, g, v, u, &mut map, &mut queue, count);
-        if 255 < count {
-            return Ordered {
-                order: Order::NotBelow,
-                map: map,
-            };
-        }
+        count = follow(s, g, v, u, &mut map, &mut queue, count)?;
         head += 1;
     }
-    Ordered {
-        order: Order::Below,
-        map: map,
-    }
+    Some(map)
 }

@@ -2,14 +2,16 @@
 use mathlib.Core.Path.{◌≡◌, refl, sym, ◌∙◌, ap, ap₂, subst}
 use mathlib.Core.Bool.{Bool, true, false, cond}
 use mathlib.Core.List.{List, [], ◌∷◌, ◌++◌}
-use Prim.Native.Nat.{ℕ, zero, suc, ◌+◌, ◌*◌, ◌/◌, ◌%◌, ◌≤◌, ◌<◌}
+use Prim.Native.Nat.{ℕ, zero, suc, ◌+◌, ◌-◌, ◌*◌, ◌/◌, ◌%◌, ◌≤◌, ◌<◌}
 use native.Mathlib.Decide.{dec_lt}
 use native.Mathlib.Numerals.{add-one}
 use native.Mathlib.Omega.{arith}
 use borrow.Author.Tests.{lt-ltb, le-ltb, ltb-false}
 use lib.Dec.{ltb}
-use lib.ListN.{length, get_or, set, drop, length-append, length-set, drop_of_length-le}
-use lib.Seq.{sets, drop-cons}
+use lib.ListN.{length, get_or, set, take, drop, length-append, length-set, drop_of_length-le}
+use lib.Seq.{sets, sets-eq, drop-cons, take-length}
+use borrow.Rule.Slice.PartMut.{put_mid}
+use Rattle.std.proofs.lemmas.Slice.{put_mid-paste}
 use Rattle.graphs.proofs.Stores.{sets-append}
 use Rattle.text.specs.Text.{Puts, decimal, decimal_within, digit_of, hexadecimal}
 
@@ -29,6 +31,16 @@ puts_then {a} {b} {at} {middle} {old = old} p q = record {
 -- one byte
 pub puts-byte : (at : ℕ) (old : List ℕ) (x : ℕ) → Puts (x ∷ []) at old (at + 1) (set old at x)
 puts-byte at old x = record { next-is = refl; new_is = refl }
+
+-- a word that is copied to its part of the output
+pub puts-word : (word old part : List ℕ) (at : ℕ) → part ≡ word → at + length word ≤ length old →
+    Puts word at old (at + length word) (put_mid at (at + length word - at) old part)
+puts-word word old part at same room = record {
+  next-is = refl;
+  new_is =
+      put_mid-paste at (at + length word - at) old part word (length word) same (omega arith) refl
+      ∙ ap (λ (l : List ℕ). take at old ++ l ++ drop (at + length word) old) (take-length word) ∙ sym (sets-eq word old at room);
+}
 
 -- A text that is put byte by byte: `left` is what is left of it.
 pub record Putting (text : List ℕ) (at : ℕ) (old left : List ℕ) (next : ℕ) (new : List ℕ) : Type 0 where

@@ -1,4 +1,5 @@
 // Numbers and words as text. Each function puts bytes into the output from `at` on and answers the next place. This crate knows bytes alone.
+// `write!` of std would stand for none of them: it answers a `Result`, and the place behind the text would have to be kept beside the output.
 
 #![tactic(auto)]
 
@@ -10,14 +11,9 @@ pub fn put_word(word: &[u8], at: usize, out: &mut [u8]) -> usize
     requires { at + length word.now ≤ length out.old }
     ensures { Puts word.now at out.old result out.new }
 {
-    let mut next = at;
-    let mut i = 0;
-    while i < word.len() {
-        out[next] = word[i];
-        next += 1;
-        i += 1;
-    }
-    next
+    let end = at + word.len();
+    out[at..end].copy_from_slice(word);
+    end
 }
 
 // The digit of a number below 16.
@@ -25,7 +21,7 @@ fn digit(d: u8) -> u8
     requires { d < 16 }
     ensures { result ≡ digit_of d }
 {
-    if d < 10 { 48 + d } else { 87 + d }
+    if d < 10 { b'0' + d } else { b'a' - 10 + d }
 }
 
 // Puts bytes in hexadecimal, two digits for each.
@@ -34,13 +30,10 @@ pub fn put_hexadecimal(bytes: &[u8], at: usize, out: &mut [u8]) -> usize
     ensures { Puts (hexadecimal bytes.now) at out.old result out.new }
 {
     let mut next = at;
-    let mut i = 0;
-    while i < bytes.len() {
-        let b = bytes[i];
+    for &b in bytes {
         out[next] = digit(b / 16);
         out[next + 1] = digit(b % 16);
         next += 2;
-        i += 1;
     }
     next
 }

@@ -10,6 +10,7 @@ use native.Mathlib.Omega.{arith}
 use borrow.Author.Tests.{eq-eqb, eqb-true}
 use lib.Dec.{eqb}
 use lib.ListN.{length, get_or}
+use Rattle.std.specs.Prelude.{Err}
 use Rattle.graphs.specs.Graph.{Graph, TellsApart, follow, walk}
 use Rattle.graphs.specs.Rows.{from, features}
 use Rattle.graphs.specs.Number.{Canonical, canonical}
@@ -54,12 +55,11 @@ use Rattle.layout.specs.Layout.{size, feature_at, label_at, graph_in}
 use Rattle.layout.proofs.Rows.{length-rows}
 use Rattle.layout.proofs.Places.{label-at, link-at, link-place, link-known}
 use Rattle.visits.specs.Walks.{Reaches, one, more, TargetsFirst}
-use Rattle.encode.specs.declared.Written.{Written}
-use Rattle.encode.specs.Encode.{yielding, written_out}
-use Rattle.unify.specs.declared.Combined.TheVariants as combined
+use Rattle.encode.specs.Encode.{yielding, written_out, Writing}
+use Rattle.unify.specs.declared.NoCombination.TheVariants as uncombined
 use Rattle.merging.specs.Lowered.{label_of_class, lower_by}
 use Rattle.merging.specs.Clash.{contradicts}
-use Rattle.unify.specs.Outcome.{combined_of, unified_out, unifying_out}
+use Rattle.unify.specs.Outcome.{combining, combined_of, unified_out, unifying_out}
 use Rattle.merging.specs.Rows.{Operand, Merges}
 use Rattle.unify.proofs.Sides.{operands, number, Inside, inside-reached, reached-in, number_in, node_of, link-in}
 use Rattle.unify.proofs.Sharing.{class_of, one-related, related-one, class-sound, class-link, class-source, leads-own}
@@ -418,7 +418,7 @@ module _ (n : ℕ) (meets : ℕ → ℕ → ℕ) {a b graph : List ℕ} (left : 
   out-is : (old : List ℕ) → unified_out (joint (size a) (size b)) old ≡ unifying_out n meets a b old
   out-is old = sym (ap₂ (λ (k l : ℕ). unified_out (joint k l) old) (length-rows a 0 (size a)) (length-rows b 0 (size b)))
 
-  pub answers-cycle : (v : ℕ) → Reaches graph v v → (old : List ℕ) → yielding combined.Cycle old ≡ unifying_out n meets a b old
+  pub answers-cycle : (v : ℕ) → Reaches graph v v → (old : List ℕ) → yielding (Err uncombined.Cycle) old ≡ unifying_out n meets a b old
   unfolding unification_by unified_out
   answers-cycle v r old = sym (ap (λ (s : Bool). unified_out (answered s clashes) old) (cycle-found v r)) ∙ out-is old
 
@@ -428,12 +428,12 @@ module _ (n : ℕ) (meets : ℕ → ℕ → ℕ) {a b graph : List ℕ} (left : 
     answered-none t e = ap₂ answered (cycle-none sorted) e
 
     pub answers-clash : any_of (from 0 (size graph)) (λ x. contradicts (label_at graph x)) ≡ true → (old : List ℕ) →
-        yielding combined.Clash old ≡ unifying_out n meets a b old
+        yielding (Err uncombined.Clash) old ≡ unifying_out n meets a b old
     unfolding unified_out
     answers-clash found old = sym (ap (λ z. unified_out z old) (answered-none true (clash-is ∙ found))) ∙ out-is old
 
-    pub answers-written : any_of (from 0 (size graph)) (λ x. contradicts (label_at graph x)) ≡ false → (old : List ℕ) {w : Written} {new : List ℕ} →
-        yielding w new ≡ written_out (canonical eqb (graph_in graph)) old → yielding (combined.Written w) new ≡ unifying_out n meets a b old
+    pub answers-written : any_of (from 0 (size graph)) (λ x. contradicts (label_at graph x)) ≡ false → (old : List ℕ) {w : Writing} {new : List ℕ} →
+        yielding w new ≡ written_out (canonical eqb (graph_in graph)) old → yielding (combining w) new ≡ unifying_out n meets a b old
     unfolding unified_out
     answers-written clear old yields =
         ap combined_of (yields ∙ ap (λ (k : Canonical Label). written_out k old) (sym same-form)) ∙

@@ -9,8 +9,8 @@ use borrow.Author.Tests.{eq-eqb, ne_eqb, le-leb, lt-leb}
 use lib.Dec.{eqb}
 use lib.ListN.{length, length-append}
 use lib.Seq.{append_snoc}
-use Rattle.replies.specs.declared.Reply.{Reply}
-use Rattle.replies.specs.declared.Reply.TheVariants.{NoStoreRoom}
+use Rattle.replies.specs.Replies.{Reply}
+use Rattle.replies.specs.Replies.{NoStoreRoom}
 use Rattle.versions.specs.State.{Made, made, stopped, and_then, record_in, Programs, two_bytes, map_of, measured, state_of, combination, difference_of, differences, within, stored, joined, way_from, take_measured, restored}
 use Rattle.versions.specs.Promise.{packed}
 

@@ -9,8 +9,8 @@ use native.Mathlib.Omega.{arith}
 use borrow.Author.Tests.{le-leb, lt-leb}
 use lib.ListN.{length, take, drop, replicate, length-append, length-drop, length-replicate, drop_of_length-le}
 use lib.Seq.{length-take-le, take_at, drop-cons, get_or-take}
-use Rattle.replies.specs.declared.Reply.{Reply}
-use Rattle.replies.specs.declared.Reply.TheVariants.{Length, NoStoreRoom}
+use Rattle.replies.specs.Replies.{Reply}
+use Rattle.replies.specs.Replies.{Length, NoStoreRoom}
 use Rattle.replies.specs.Reply.{resulting, length_of, Bounded}
 use Rattle.calls.specs.Calls.{differing}
 use Rattle.gathering.specs.Gathering.{length_at}

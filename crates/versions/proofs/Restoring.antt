@@ -7,10 +7,10 @@ use native.Mathlib.Omega.{arith}
 use lib.ListN.{length, take, replicate}
 use Rattle.graphs.proofs.Search.{true-false}
 use Rattle.lattice.specs.Table.{accepted}
-use Rattle.acceptance.specs.declared.Opened.{Opened}
+use Rattle.acceptance.specs.Reply.{TableAnswer}
 use Rattle.acceptance.proofs.Acceptance.{accepted-opened}
-use Rattle.replies.specs.declared.Reply.{Reply}
-use Rattle.replies.specs.declared.Reply.TheVariants.{Length}
+use Rattle.replies.specs.Replies.{Reply}
+use Rattle.replies.specs.Replies.{Length}
 use Rattle.replies.specs.Reply.{resulting, refusing}
 use Rattle.engine.specs.Unifying.{unified_beside}
 use Rattle.calls.specs.Calls.{checked, unifying}
@@ -24,7 +24,7 @@ use Rattle.versions.proofs.Written.{length-blank, unifying-fits, taken_made, tak
 -- Over an accepted table and without a list, combining two records is the call `unifying`.
 unified-call : (n : ℕ) (t list a b out : List ℕ) → accepted n t ≡ true → length list ≡ 0 → unified_beside n t list a b out ≡ unifying n t a b out
 unified-call n t list a b out ok empty =
-    sym (ap (λ (o : Opened). checked (λ r. refusing r out) o (unified_beside n t list a b out)) (accepted-opened n t ok)) ∙
+    sym (ap (λ (o : TableAnswer). checked (λ r. refusing r out) o (unified_beside n t list a b out)) (accepted-opened n t ok)) ∙
     unifying-plain n t list empty out a b
 
 module _ (n : ℕ) (t list a b : List ℕ) {reply : Reply} {new : List ℕ} (ok : accepted n t ≡ true) (empty : length list ≡ 0)

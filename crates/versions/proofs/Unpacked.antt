@@ -10,12 +10,11 @@ use lib.Dec.{eqb}
 use lib.ListN.{length, take, drop, set, length-drop}
 use lib.Seq.{take_all, take-suc-set, drop-drop}
 use Rattle.graphs.proofs.Search.{true-false}
-use Rattle.acceptance.specs.declared.TableFault.{TableFault}
-use Rattle.acceptance.specs.declared.Opened.TheVariants.{Accepted, Refused}
+use Rattle.std.specs.Prelude.{is_err}
 use Rattle.lattice.specs.Table.{accepted}
-use Rattle.acceptance.specs.Reply.{opened}
+use Rattle.acceptance.specs.Reply.{opened, TableAnswer}
 use Rattle.acceptance.proofs.Acceptance.{accepted-opened}
-use Rattle.replies.specs.declared.Reply.{Reply}
+use Rattle.replies.specs.Replies.{Reply}
 use Rattle.gathering.specs.Gathering.{length_at}
 use Rattle.gathering.proofs.Told.{none-some}
 use Rattle.versions.specs.State.{Made, made, stopped, record_in, Programs, no_programs, combination, take_measured, restored, unpacked_by, unpacked}
@@ -165,10 +164,8 @@ unpacked-by n t (low ∷ []) h = absurd (omega arith)
 unpacked-by n t (low ∷ high ∷ rest) h = refl
 
 -- an accepted table is not refused
-pub not-refused : (n : ℕ) (t : List ℕ) {fault : TableFault} {X : Type 0} → accepted n t ≡ true → opened n t ≡ Refused fault → X
-not-refused n t {fault} ok e =
-    let d : Accepted ≡ Refused fault = sym (accepted-opened n t ok) ∙ e in
-    let z : ◌≡◌ {A = ℕ} 0 1 = cc in absurd (omega arith)
+pub not-refused : (n : ℕ) (t : List ℕ) {answer : TableAnswer} → accepted n t ≡ true → answer ≡ opened n t → is_err answer ≡ false
+not-refused n t ok e = ap is_err (e ∙ accepted-opened n t ok)
 
 module _ (n : ℕ) (t buffer : List ℕ) (two : 2 ≤ length buffer) {bits : ℕ} (is : bits ≡ length_at buffer) where
   abbrev rest : Option Programs

@@ -11,21 +11,20 @@ use borrow.Author.Tests.{leb-true}
 use lib.Dec.{eqb, leb}
 use lib.ListN.{length, take, drop, length-append, length-drop, length-replicate}
 use lib.Seq.{length-take-le}
+use Rattle.std.specs.Prelude.{Ok, Err}
 use Rattle.graphs.specs.Rows.{Row, from}
 use Rattle.graphs.specs.Number.{Canonical, canonical, many_nodes, many_links, written}
 use Rattle.graphs.specs.Unify.{Unified, cycle, clash, unified, unification}
 use Rattle.graphs.specs.Difference.{by_number}
 use Rattle.lattice.specs.Label.{Label}
 use Rattle.lattice.specs.Labels.{table_labels}
-use Rattle.acceptance.specs.declared.Opened.{Opened}
-use Rattle.acceptance.specs.declared.Opened.TheVariants as table
-use Rattle.acceptance.specs.Reply.{opened}
+use Rattle.acceptance.specs.Reply.{opened, TableAnswer}
 use Rattle.encoder.specs.Encode.{encoded}
-use Rattle.encode.specs.declared.Written.TheVariants as outcome
+use Rattle.encode.specs.declared.Unwritten.TheVariants as unwritten
 use Rattle.encode.specs.Encode.{yielding, fitted, written_out}
 use Rattle.record.specs.Read.{Reading, refused, accepted, reading, graph_of_rows}
-use Rattle.replies.specs.declared.Reply.{Reply}
-use Rattle.replies.specs.declared.Reply.TheVariants.{Length, Table, Graph, NoRoom, TooLarge, Cycle, Clash, NotBelow, NoWantedType}
+use Rattle.replies.specs.Replies.{Reply}
+use Rattle.replies.specs.Replies.{Length, Table, Graph, NoRoom, TooLarge, Cycle, Clash, NotBelow, NoWantedType}
 use Rattle.replies.specs.declared.Side.TheVariants.{First, Second}
 use Rattle.replies.specs.Reply.{Result, resulting, result_of, refusing, length_of}
 use Rattle.subsume.specs.Promise.{rows_below}
@@ -58,7 +57,7 @@ module _ (out : List ℕ) where
     where
       go : (b : Bool) → leb (length (encoded rows)) (length out) ≡ b →
           Fitting out
-          (result_of (cond b (yielding (outcome.Length (length (encoded rows))) (encoded rows ++ drop (length (encoded rows)) out)) (yielding outcome.NoRoom out)))
+          (result_of (cond b (yielding (Ok (length (encoded rows))) (encoded rows ++ drop (length (encoded rows)) out)) (yielding (Err unwritten.NoRoom) out)))
       go true e =
           let fits : length (encoded rows) ≤ length out = leb-true (length (encoded rows)) (length out) e in
           record {
@@ -75,9 +74,9 @@ module _ (out : List ℕ) where
   written-fits (written rows) = fitted-fits rows
 
   -- The refusals before the call's operation.
-  checked-fits : (o : Opened) (r : Result) → Fitting out r → Fitting out (checked (λ q. refusing q out) o r)
-  checked-fits (table.Refused fault) r h = refused-fits (Table fault) refl
-  checked-fits table.Accepted r h = h
+  checked-fits : (o : TableAnswer) (r : Result) → Fitting out r → Fitting out (checked (λ q. refusing q out) o r)
+  checked-fits (Err fault) r h = refused-fits (Table fault) refl
+  checked-fits (Ok tt) r h = h
 
   both-fits : (i j : Reading) (next : List (Row Label) → List (Row Label) → Result) → ((g h : List (Row Label)) → Fitting out (next g h)) →
       Fitting out (read_both (λ q. refusing q out) i j next)

@@ -1,7 +1,7 @@
 -- What the functions that pack and unpack a store's state promise to each other.
 use Rattle.std.specs.Prelude.{◌≡◌, Bool, true, false, cond, List, ◌++◌, ℕ, suc, ◌+◌, ◌≤◌, ◌<◌, leb, length, take, drop, replicate, get_or, set}
 use Rattle.std.proofs.Math.Option.{Option, none, some}
-use Rattle.replies.specs.declared.Reply.{Reply}
+use Rattle.replies.specs.Replies.{Reply}
 use Rattle.replies.specs.Reply.{length_of}
 use Rattle.gathering.specs.Gathering.{length_at}
 use Rattle.versions.specs.State.{Made, made, stopped, and_then, record_in, Programs, measured, within, differences, unpacked}

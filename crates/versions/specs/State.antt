@@ -3,8 +3,8 @@
 use Rattle.std.specs.Prelude.{Bool, true, false, cond, ◌&&◌, List, [], ◌∷◌, ◌++◌, ℕ, zero, suc, ◌+◌, ◌*◌, ◌/◌, ◌%◌, eqb, leb, length, take, drop, replicate}
 use Rattle.std.proofs.Math.Option.{Option, none, some, map, bind}
 use Rattle.graphs.specs.Number.{count_some}
-use Rattle.replies.specs.declared.Reply.{Reply}
-use Rattle.replies.specs.declared.Reply.TheVariants.{NoStoreRoom}
+use Rattle.replies.specs.Replies.{Reply}
+use Rattle.replies.specs.Replies.{NoStoreRoom}
 use Rattle.replies.specs.Reply.{Result, length_of}
 use Rattle.calls.specs.Calls.{generalizing, unifying, differing}
 unfoldable pub use Rattle.gathering.specs.Gathering.{blank, two_bytes}

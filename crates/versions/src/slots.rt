@@ -6,7 +6,7 @@ ghost use Rattle.versions.specs.State.{map_of};
 ghost use Rattle.versions.specs.Slots.{Slotted, programs_in};
 ghost use Rattle.versions.specs.Promise.{EndsAt, NoneFrom, Puts};
 
-// The number of versions, the bytes of a slot, and those of all slots.
+// The number of versions, the bytes of a slot, and those of all slots. The programs stand in one array of fixed size, since the engine has no heap.
 pub const VERSIONS: usize = 16;
 
 pub const SLOT: usize = 4856;
@@ -50,12 +50,10 @@ pub fn is_none_from(slots: &[u8], version: usize) -> bool
     requires { Slotted slots.now × (version ≤ 16) }
     ensures { result ≡ true → NoneFrom version 16 (programs_in slots.now) }
 {
-    let mut v = version;
-    while v < VERSIONS {
+    for v in version..VERSIONS {
         if length_in(slots, v) != 0 {
             return false;
         }
-        v += 1;
     }
     true
 }
@@ -66,9 +64,7 @@ pub fn map_of(slots: &[u8], count: usize) -> usize
     ensures { (result ≡ map_of (take count (programs_in slots.now))) × (result < 65536) }
 {
     let mut bits = 0;
-    let mut v = count;
-    while v > 0 {
-        v -= 1;
+    for v in (0..count).rev() {
         bits = bits * 2;
         if length_in(slots, v) != 0 {
             bits += 1;

@@ -8,8 +8,7 @@ ghost use Rattle.versions.specs.State.{combination, restored};
 ghost use Rattle.versions.specs.Slots.{Absent, Slotted, programs_in};
 ghost use Rattle.versions.specs.Promise.{Restores, Unpacks};
 
-use acceptance::Opened;
-use replies::Reply;
+use engine::unifying::Combination;
 
 // Fills the slots with the programs of a buffer. Answers whether the bytes can be those of a state.
 pub fn unpack(n: usize, table: &[u8], buffer: &[u8], slots: &mut [u8]) -> bool
@@ -26,20 +25,19 @@ pub fn unpack(n: usize, table: &[u8], buffer: &[u8], slots: &mut [u8]) -> bool
     }
     let mut sets = [0u64; bounds::sets::WORDS];
     let mut cells = [[0u8; 64]; 64];
-    let opened = bounds::open(n, table, false, &mut sets, &mut cells);
-    match opened {
-        Opened::Refused(fault) => false,
-        Opened::Accepted => restore_all(
-            n,
-            table,
-            &sets,
-            &cells,
-            bits,
-            &buffer[4..end],
-            &buffer[end..],
-            slots,
-        ),
+    if bounds::open(n, table, false, &mut sets, &mut cells).is_err() {
+        return false;
     }
+    restore_all(
+        n,
+        table,
+        &sets,
+        &cells,
+        bits,
+        &buffer[4..end],
+        &buffer[end..],
+        slots,
+    )
 }
 
 // Restores the programs of the versions in a map. The differences stand one after another, each behind its length.
@@ -59,8 +57,7 @@ fn restore_all<'a>(
 {
     let mut left = bits;
     let mut at = 0;
-    let mut version = 0;
-    while version < crate::slots::VERSIONS {
+    for version in 0..crate::slots::VERSIONS {
         if left % 2 == 1 {
             let end = crate::slots::end_at(differences, at);
             if end == 0 {
@@ -81,7 +78,6 @@ fn restore_all<'a>(
             at = end;
         }
         left = left / 2;
-        version += 1;
     }
     true
 }
@@ -101,7 +97,7 @@ fn restore<'a>(
     ensures { Restores (combination n table.now difference.now part.now) version slots.old result slots.new }
 {
     let mut record = [0u8; gathering::LONGEST];
-    let reply = engine::unifying::of_records(
+    let combined = engine::operation::of_records::<Combination>(
         n,
         table,
         &table[..0],
@@ -111,7 +107,7 @@ fn restore<'a>(
         part,
         &mut record,
     );
-    let Reply::Length(length) = reply else {
+    let Ok(length) = combined else {
         return false;
     };
     crate::slots::put_measured(&record[..length], version * crate::slots::SLOT, slots);

@@ -9,7 +9,7 @@ use native.Mathlib.Decide.{ℕ_discrete}
 use borrow.Author.Count.{below_none, below_more}
 use lib.ListN.{length, get_or, set, replicate, length-set, length-replicate}
 use lib.Seq.{get_or-set_same, get_or-set_other}
-use Rattle.visits.specs.declared.sorting.Leaving.TheVariants.{Count, Back}
+use Rattle.std.specs.Prelude.{Some, None}
 use Rattle.visits.specs.Colouring.{whites, Placed, Advanced, Entered, Leaves}
 use Rattle.layout.specs.Layout.{size, links_from, row_end, target_at, Sound}
 use Rattle.visits.specs.Walks.{Leads, Reaches, Sorts}
@@ -239,7 +239,7 @@ module _ {ws : List ℕ} where
               let d : 2 ≤ get_or colour w 0 = p.advanced.placed.closed u w l (omega (arith, same u n)) in
               omega (arith, same u n, same w (not-down w d), p.advanced.placed.earlier u w l (omega (arith, same u n)))
 
-        pub finishes : Leaves ws before v done (set colour v (count + 2)) (set order count v) (Count (count + 1))
+        pub finishes : Leaves ws before v done (set colour v (count + 2)) (set order count v) (Some (count + 1))
         finishes = record {
           long = placed-finish.long;
           roomy = placed-finish.roomy;
@@ -268,7 +268,7 @@ module _ {ws : List ℕ} where
 
 -- the walk leaves a node because of a cycle
 pub leaves-back : {ws before colour order : List ℕ} {v done : ℕ} → length colour ≡ 510 → length order ≡ 510 →
-    (u : ℕ) × Reaches ws u u → Leaves ws before v done colour order Back
+    (u : ℕ) × Reaches ws u u → Leaves ws before v done colour order None
 leaves-back l m c = record {
   long = l;
   roomy = m;

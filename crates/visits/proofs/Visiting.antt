@@ -13,6 +13,7 @@ use borrow.Author.Tests.{eqb-true, eqb-false, le-leb, lt-leb}
 use lib.Dec.{eqb}
 use lib.ListN.{length, get_or, set, take, length-set, length-reverse}
 use lib.Seq.{slice, slice-cons, slice_empty, length-take-le, take-suc-set, take-set-le, get_or-set_same, get_or-set_other, get_or-take}
+use Rattle.std.specs.Prelude.{Some, None, Option as Answer}
 use Rattle.graphs.specs.Number.{member}
 use Rattle.graphs.proofs.Lists.{reverse_snoc}
 use Rattle.layout.specs.Layout.{scale, size, links_from, row_end, target_at, Sound}
@@ -135,9 +136,6 @@ follow {ws} {numbers} {visited} {v} {given} depth r =
     }
 
 -- the places that say where the row of a node lies
-pub listed : {ws numbers visited : List ℕ} {v given : ℕ} → Visitable ws numbers visited v given → v + 2 < length ws
-listed {v = v} r = (r.sound.shaped.node v r.inside).listed
-
 -- the same for arrays that are equal
 pub follows-as : {ws numbers visited : List ℕ} {v depth count k : ℕ} {found : Option (List ℕ)}
     {numbers' visited' : List ℕ} {count' : ℕ} → numbers' ≡ numbers → visited' ≡ visited → count' ≡ count →
@@ -147,7 +145,7 @@ follows-as p q e f = rw (p, q, e) f
 
 -- storing v behind the nodes seen keeps them, so what the visit of v finds can be said of the arrays at its entry
 pub entered : {ws numbers visited : List ℕ} {v given : ℕ} → Visitable ws numbers visited v given →
-    (depth r : ℕ) (numbers' visited' : List ℕ) →
+    (depth : ℕ) (r : Answer ℕ) (numbers' visited' : List ℕ) →
     Finds ws (below ws depth v (seen_of (set visited given v) given)) r numbers' visited' →
     Finds ws (below ws depth v (seen_of visited given)) r numbers' visited'
 entered {ws} {numbers} {visited} {v} {given} ready depth r numbers' visited' f =
@@ -156,22 +154,26 @@ entered {ws} {numbers} {visited} {v} {given} ready depth r numbers' visited' f =
 none-some : {X : Type 0} {o : Option (List ℕ)} {s : List ℕ} → o ≡ none → o ≡ some s → X
 none-some p q = let z : ◌≡◌ {A = ℕ} 0 1 = cc in absurd (omega arith)
 
+some-none : {n : ℕ} → Some n ≡ None → ⊥
+some-none e = let z : ◌≡◌ {A = ℕ} 0 1 = cc in omega arith
+
 found_none : {ws : List ℕ} {found : Option (List ℕ)} (numbers visited : List ℕ) → length numbers ≡ 510 → length visited ≡ 255 →
-    found ≡ none → Finds ws found 256 numbers visited
+    found ≡ none → Finds ws found None numbers visited
 found_none numbers visited long wide e =
-    record { numbers-long = long; visited-long = wide; full = λ _. refl; marks = λ seen q. none-some e q }
+    record { numbers-long = long; visited-long = wide; full = λ _. refl; counted = λ seen q. none-some e q; marks = λ seen q. none-some e q }
 
 module _ {ws numbers visited : List ℕ} {v depth count k : ℕ} {found : Option (List ℕ)}
     (f : Follows ws v depth found numbers visited count k) where
   -- after the last target
-  pub found_all : row_end ws v ≤ k → Finds ws found count numbers visited
+  pub found_all : row_end ws v ≤ k → Finds ws found (Some count) numbers visited
   unfolding each_target
   found_all h =
       record {
         numbers-long = f.marks.numbers-long;
         visited-long = f.marks.visited-long;
         full = λ e. none-some e all;
-        marks = λ seen e. (let q : some (seen_of visited count) ≡ some seen = sym all ∙ e in cc, f.marks);
+        counted = λ seen e. ap (λ (n : ℕ). Some n) (sym (size seen e));
+        marks = λ seen e. rw (size seen e) (same seen e, f.marks);
       }
     where
       all : found ≡ some (seen_of visited count)
@@ -180,13 +182,16 @@ module _ {ws numbers visited : List ℕ} {v depth count k : ℕ} {found : Option
           f.whole ∙ ap (λ (i : ℕ). each_target (visit_targets (targets_at ws) depth) (targets_from ws i (row_end ws v)) (seen_of visited count)) q ∙
           ap (λ (l : List ℕ). each_target (visit_targets (targets_at ws) depth) l (seen_of visited count)) (ap (map (λ w. w % scale)) (slice_empty (row_end ws v) ws))
 
+      same : (seen : List ℕ) → found ≡ some seen → seen_of visited count ≡ seen
+      same seen e = let q : some (seen_of visited count) ≡ some seen = sym all ∙ e in cc
+
+      size : (seen : List ℕ) → found ≡ some seen → length seen ≡ count
+      size seen e = ap length (sym (same seen e)) ∙ length_seen visited count (omega (arith, f.marks.few, f.marks.visited-long))
+
   -- at a target
   module _ (more : k < row_end ws v) where
     pub target-in : target_at ws k < size ws
     target-in = f.sound.targets v k f.inside f.low more
-
-    pub place-in : k < length ws
-    place-in = omega (arith, (f.sound.shaped.node v f.inside).ended)
 
     seen-count : length (seen_of visited count) ≡ count
     seen-count = length_seen visited count (omega (arith, f.marks.few, f.marks.visited-long))
@@ -229,12 +234,12 @@ module _ {ws numbers visited : List ℕ} {v depth count k : ℕ} {found : Option
           number-fresh (target_at ws k) (seen_of visited count) (omega (arith, seen-count, f.marks.few))
           (sym (f.marks.numbered (target_at ws k) target-in) ∙ fresh)
 
-      pub found-crowded : 255 ≤ count → Finds ws found 256 numbers visited
+      pub found-crowded : 255 ≤ count → Finds ws found None numbers visited
       found-crowded h =
           found_none numbers visited f.marks.numbers-long f.marks.visited-long
           (fails (visit-crowded (targets_at ws) depth (target_at ws k) (seen_of visited count) missed (omega (arith, seen-count))))
 
-      pub found-deep : depth ≡ 0 → Finds ws found 256 numbers visited
+      pub found-deep : depth ≡ 0 → Finds ws found None numbers visited
       found-deep e =
           found_none numbers visited f.marks.numbers-long f.marks.visited-long
           (fails (ap (λ (d : ℕ). visit_targets (targets_at ws) d (target_at ws k) (seen_of visited count)) e ∙
@@ -244,8 +249,8 @@ module _ {ws numbers visited : List ℕ} {v depth count k : ℕ} {found : Option
       ready h = record { sound = f.sound; marks = f.marks; inside = target-in; fresh = fresh; room = h }
 
       -- and is visited
-      module _ (room : count < 255) (deep : depth ≡ 0 → ⊥) {r : ℕ} {numbers' visited' : List ℕ}
-          (g : Finds ws (below ws (depth - 1) (target_at ws k) (seen_of visited count)) r numbers' visited') where
+      module _ (room : count < 255) (deep : depth ≡ 0 → ⊥) {answer : Answer ℕ} {numbers' visited' : List ℕ}
+          (g : Finds ws (below ws (depth - 1) (target_at ws k) (seen_of visited count)) answer numbers' visited') where
         through : visit_targets (targets_at ws) depth (target_at ws k) (seen_of visited count) ≡
             below ws (depth - 1) (target_at ws k) (seen_of visited count)
         through = visit-fresh (targets_at ws) depth (target_at ws k) (seen_of visited count) missed (omega (arith, seen-count)) deep
@@ -253,30 +258,33 @@ module _ {ws numbers visited : List ℕ} {v depth count k : ℕ} {found : Option
         Found : Option (List ℕ) → Type 0
         Found o = below ws (depth - 1) (target_at ws k) (seen_of visited count) ≡ o
 
-        pub found-full : 255 < r → Finds ws found 256 numbers' visited'
+        pub found-full : answer ≡ None → Finds ws found None numbers' visited'
         unfolding Found
         found-full h = at (below ws (depth - 1) (target_at ws k) (seen_of visited count)) refl
           where
-            at : (o : Option (List ℕ)) → Found o → Finds ws found 256 numbers' visited'
+            at : (o : Option (List ℕ)) → Found o → Finds ws found None numbers' visited'
             at none e = found_none numbers' visited' g.numbers-long g.visited-long (fails (through ∙ e))
-            at (some seen) e = absurd (omega (arith, (g.marks seen e).1.few))
+            at (some seen) e = absurd (some-none (sym (g.counted seen e) ∙ h))
 
-        pub follow-found : r ≤ 255 → Follows ws v depth found numbers' visited' r (k + 1)
+        pub follow-found : {r : ℕ} → answer ≡ Some r → Follows ws v depth found numbers' visited' r (k + 1)
         unfolding Found
-        follow-found h = at (below ws (depth - 1) (target_at ws k) (seen_of visited count)) refl
+        follow-found {r} h = at (below ws (depth - 1) (target_at ws k) (seen_of visited count)) refl
           where
             at : (o : Option (List ℕ)) → Found o → Follows ws v depth found numbers' visited' r (k + 1)
-            at none e = absurd (omega (arith, g.full e))
+            at none e = absurd (some-none (sym h ∙ g.full e))
             at (some seen) e =
+                let same : Some (length seen) ≡ Some r = sym (g.counted seen e) ∙ h in
+                let sized : length seen ≡ r = cc in
+                let marks : (seen_of visited' r ≡ seen) × Marks ws numbers' visited' r = rw sized at (g.marks seen e) in
                 record {
                   sound = f.sound;
                   inside = f.inside;
                   low = omega (arith, f.low);
                   reach = omega arith;
-                  marks = (g.marks seen e).1;
+                  marks = marks.1;
                   whole =
                       goes seen (through ∙ e) ∙
-                      ap (each_target (visit_targets (targets_at ws) depth) (targets_from ws (k + 1) (row_end ws v))) (sym (g.marks seen e).0);
+                      ap (each_target (visit_targets (targets_at ws) depth) (targets_from ws (k + 1) (row_end ws v))) (sym marks.0);
                 }
 
 -- The numbering of a whole graph.
@@ -297,25 +305,19 @@ unfolding number_among
 unmarked ws numbers visited long wide clear =
     record { numbers-long = long; visited-long = wide; few = omega arith; numbered = clear; placed = λ i h. absurd (omega arith) }
 
-pub numbered : {r : ℕ} (ws numbers visited visited₀ : List ℕ) →
+pub numbered : {r : Answer ℕ} (ws numbers visited visited₀ : List ℕ) →
     Finds ws (below ws 254 0 (seen_of visited₀ 0)) r numbers visited → Numbers ws r numbers visited
 unfolding visit_targets member
 numbered {r} ws numbers visited visited₀ f =
     record {
       full = λ e. f.full e;
-      counted = λ seen e. sym (long seen e);
-      by_number_lem = λ seen e i h. sym (same seen e i (omega (arith, long seen e)));
+      counted = λ seen e. f.counted seen e;
+      by_number_lem = λ seen e i h. sym (same seen e i h);
       by-node = λ seen e i h.
-          ap (λ (v : ℕ). get_or numbers v 0) (same seen e i (omega (arith, long seen e))) ∙
-          (f.marks seen e).1.placed i (omega (arith, long seen e));
+          ap (λ (v : ℕ). get_or numbers v 0) (same seen e i h) ∙ (f.marks seen e).1.placed i h;
     }
   where
-    long : (seen : List ℕ) → below ws 254 0 [] ≡ some seen → length seen ≡ r
-    long seen e =
-        let m : Marks ws numbers visited r = (f.marks seen e).1 in
-        ap length (sym (f.marks seen e).0) ∙ length_seen visited r (omega (arith, m.few, m.visited-long))
-
-    same : (seen : List ℕ) → below ws 254 0 [] ≡ some seen → (i : ℕ) → i < r → get_or (reverse seen) i 0 ≡ get_or visited i 0
+    same : (seen : List ℕ) → below ws 254 0 [] ≡ some seen → (i : ℕ) → i < length seen → get_or (reverse seen) i 0 ≡ get_or visited i 0
     same seen e i h =
         ap (λ (l : List ℕ). get_or (reverse l) i 0) (sym (f.marks seen e).0) ∙
-        ap (λ (l : List ℕ). get_or l i 0) (reverse-reverse (take r visited)) ∙ get_or-take r visited i 0 h
+        ap (λ (l : List ℕ). get_or l i 0) (reverse-reverse (take (length seen) visited)) ∙ get_or-take (length seen) visited i 0 h

@@ -1,8 +1,6 @@
 -- This file says what the depth-first walk keeps that sorts the nodes. A node's colour is 0 while it is white, 1 while it is on the way
 -- down, and 2 + p once it is finished and stands at place p of the order.
-use Rattle.std.specs.Prelude.{◌≡◌, List, [], ◌∷◌, ℕ, zero, suc, ◌+◌, ◌-◌, ◌≤◌, ◌<◌, length, get_or}
-use Rattle.visits.specs.declared.sorting.Leaving.{Leaving}
-use Rattle.visits.specs.declared.sorting.Leaving.TheVariants.{Count, Back}
+use Rattle.std.specs.Prelude.{◌≡◌, Option, Some, None, List, [], ◌∷◌, ℕ, zero, suc, ◌+◌, ◌-◌, ◌≤◌, ◌<◌, length, get_or}
 use Rattle.layout.specs.Layout.{size, Sound}
 use Rattle.visits.specs.Walks.{Leads, Reaches}
 
@@ -40,10 +38,10 @@ module _ (ws : List ℕ) where
     pub above : (u : ℕ) → u < size ws → get_or colour u 0 ≡ 1 → Reaches ws u v
     pub room : count + whites (size ws) colour ≤ size ws
 
-  -- The walk leaves the node v: v is finished, or some node reaches itself.
-  pub record Leaves (colour : List ℕ) (v count : ℕ) (later order : List ℕ) (leaving : Leaving) : Type 0 where
+  -- The walk leaves the node v: v is finished, and the answer is the number of finished nodes; or there is none, and some node reaches itself.
+  pub record Leaves (colour : List ℕ) (v count : ℕ) (later order : List ℕ) (answer : Option ℕ) : Type 0 where
     pub long : length later ≡ 510
     pub roomy : length order ≡ 510
-    pub counted : (more : ℕ) → leaving ≡ Count more → Advanced colour count later order more
-    pub finished : (more : ℕ) → leaving ≡ Count more → 2 ≤ get_or later v 0
-    pub looped : leaving ≡ Back → (u : ℕ) × Reaches ws u u
+    pub counted : (more : ℕ) → answer ≡ Some more → Advanced colour count later order more
+    pub finished : (more : ℕ) → answer ≡ Some more → 2 ≤ get_or later v 0
+    pub looped : answer ≡ None → (u : ℕ) × Reaches ws u u

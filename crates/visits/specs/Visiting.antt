@@ -1,5 +1,5 @@
 -- This file says what the functions of the numbering keep: `numbers` and `visited` hold the nodes seen so far.
-use Rattle.std.specs.Prelude.{◌≡◌, cond, List, [], ◌∷◌, reverse, ℕ, ◌≤◌, ◌<◌, eqb, length, get_or, take}
+use Rattle.std.specs.Prelude.{◌≡◌, cond, List, [], ◌∷◌, reverse, ℕ, ◌≤◌, ◌<◌, eqb, length, get_or, take, Some, None, Option as Answer}
 use Rattle.std.proofs.Math.Option.{Option, none, some}
 use Rattle.layout.specs.Layout.{Sound, size}
 use Rattle.visits.specs.Walks.{each_target, targets_at, visit_targets}
@@ -33,9 +33,10 @@ pub record Visitable (ws numbers visited : List ℕ) (v given : ℕ) : Type 0 wh
 abbrev pub below : List ℕ → ℕ → ℕ → List ℕ → Option (List ℕ)
 below ws depth v seen = each_target (visit_targets (targets_at ws) depth) (targets_at ws v) (v ∷ seen)
 
--- `count` is 256 where a visit gives none; else the arrays hold the nodes that the visit has seen.
-pub record Finds (ws : List ℕ) (found : Option (List ℕ)) (count : ℕ) (numbers visited : List ℕ) : Type 0 where
+-- There is no count where a visit gives none; else the arrays hold the nodes that the visit has seen.
+pub record Finds (ws : List ℕ) (found : Option (List ℕ)) (count : Answer ℕ) (numbers visited : List ℕ) : Type 0 where
   pub numbers-long : length numbers ≡ 510
   pub visited-long : length visited ≡ 255
-  pub full : found ≡ none → count ≡ 256
-  pub marks : (seen : List ℕ) → found ≡ some seen → (seen_of visited count ≡ seen) × Marks ws numbers visited count
+  pub full : found ≡ none → count ≡ None
+  pub counted : (seen : List ℕ) → found ≡ some seen → count ≡ Some (length seen)
+  pub marks : (seen : List ℕ) → found ≡ some seen → (seen_of visited (length seen) ≡ seen) × Marks ws numbers visited (length seen)

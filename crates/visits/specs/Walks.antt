@@ -1,6 +1,6 @@
 -- This file defines what walks over a graph in words go by: which node leads to which, an order of the nodes with targets first, and the
 -- visit of crate `graphs`, here over the targets of each node in their order. The file also says what sorting and numbering answer.
-use Rattle.std.specs.Prelude.{◌≡◌, Bool, true, false, List, [], ◌∷◌, map, reverse, ℕ, zero, suc, ◌%◌, ◌≤◌, ◌<◌, eqb, leb, length, get_or}
+use Rattle.std.specs.Prelude.{◌≡◌, Bool, true, false, List, [], ◌∷◌, map, reverse, ℕ, zero, suc, ◌%◌, ◌≤◌, ◌<◌, eqb, leb, length, get_or, Some, None, Option as Answer}
 use Rattle.std.proofs.Math.Option.{Option, none, some, bind}
 use Rattle.std.proofs.Math.Seq.{slice}
 use Rattle.graphs.specs.Number.{member, otherwise}
@@ -52,9 +52,9 @@ pub record Sorts (ws order : List ℕ) (found : Bool) : Type 0 where
   pub looped : found ≡ true → (v : ℕ) × Reaches ws v v
   pub sorted : found ≡ false → (place : ℕ → ℕ) × TargetsFirst ws order place
 
--- What numbering answers: how many nodes the root reaches, or 256 for more than 255. The arrays hold these nodes as the visit finds them.
-pub record Numbers (ws : List ℕ) (count : ℕ) (numbers visited : List ℕ) : Type 0 where
-  pub full : found_in ws ≡ none → count ≡ 256
-  pub counted : (seen : List ℕ) → found_in ws ≡ some seen → count ≡ length seen
+-- What numbering answers: how many nodes the root reaches, or none for more than 255. The arrays hold these nodes as the visit finds them.
+pub record Numbers (ws : List ℕ) (count : Answer ℕ) (numbers visited : List ℕ) : Type 0 where
+  pub full : found_in ws ≡ none → count ≡ None
+  pub counted : (seen : List ℕ) → found_in ws ≡ some seen → count ≡ Some (length seen)
   pub by_number_lem : (seen : List ℕ) → found_in ws ≡ some seen → (i : ℕ) → i < length seen → get_or visited i 0 ≡ get_or (reverse seen) i 0
   pub by-node : (seen : List ℕ) → found_in ws ≡ some seen → (i : ℕ) → i < length seen → get_or numbers (get_or (reverse seen) i 0) 0 ≡ i

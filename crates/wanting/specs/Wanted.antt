@@ -1,11 +1,12 @@
 -- The wanted labels of the nodes of s (document 01, "Difference"), as the code holds them in arrays. An array of labels has a header for each
 -- node, and the header of node v stands at header * v.
-use Rattle.std.specs.Prelude.{◌≡◌, Bool, true, false, List, ℕ, ◌*◌, ◌≤◌, ◌<◌, eqb, length, get_or}
+use Rattle.std.specs.Prelude.{◌≡◌, Bool, true, false, List, ℕ, ◌*◌, ◌≤◌, ◌<◌, eqb, length, get_or, Option as Answer}
 use Rattle.std.proofs.Math.Option.{Option, some}
+use Rattle.wanting.specs.declared.Meet.{Meet}
 use Rattle.graphs.specs.Rows.{from}
 use Rattle.graphs.specs.Difference.{meet_where}
 use Rattle.lattice.specs.Label.{Label}
-use Rattle.lattice.specs.Table.{every, found, accepted}
+use Rattle.lattice.specs.Table.{every, found, answer, accepted}
 use Rattle.lattice.specs.Words.{Words}
 use Rattle.lattice.specs.Labels.{table_labels, Known, wanted_label}
 use Rattle.layout.specs.Layout.{header, label_from, size, label_at, Sound}
@@ -24,41 +25,26 @@ pub record LabelsOver (n nodes : ℕ) (g map : List ℕ) : Type 0 where
   pub mapped : (y : ℕ) → y < size g → get_or map y 0 < nodes
   pub known : (y : ℕ) → y < size g → Known n (label_at g y)
 
--- Three arrays of 255 entries are for the meet over each node of s: the word of the types below its type, its lowest and its highest level.
-pub record MetLong (over lowest highest : List ℕ) : Type 0 where
-  pub types : length over ≡ 255
-  pub lows : length lowest ≡ 255
-  pub highs : length highest ≡ 255
+-- the meet that stands for a place past the end of an array
+abbrev pub no_meet : Meet
+no_meet = record { word = 0; lowest = 0; highest = 0 }
 
--- The value at each node v below `nodes` is `part` of the meet over v, taken over the `count` nodes of g from y on.
-abbrev pub MetPart : (Label → ℕ) → ℕ → List ℕ → ℕ → List ℕ → List ℕ → ℕ → ℕ → List ℕ → Type 0
-MetPart part n t nodes g map y count values = (v : ℕ) → v < nodes → get_or values v 0 ≡ part (met_from n t g map y count v)
+-- a label as the code holds a meet: the word of the types below its type, and its levels
+abbrev pub meet_of : List ℕ → Label → Meet
+meet_of ws l = record { word = get_or ws l.type 0; lowest = l.lowest; highest = l.highest }
 
--- the word of a label's type
-abbrev pub word_of : List ℕ → Label → ℕ
-word_of ws l = get_or ws l.type 0
+-- The array holds the meet over each node of s, taken over the `count` nodes of g from y on.
+abbrev pub Met : ℕ → List ℕ → List ℕ → ℕ → List ℕ → List ℕ → ℕ → ℕ → List Meet → Type 0
+Met n t ws nodes g map y count met = (v : ℕ) → v < nodes → get_or met v no_meet ≡ meet_of ws (met_from n t g map y count v)
 
--- The three arrays hold the meet over each node of s, taken over the `count` nodes of g from y on.
-pub record Met (n : ℕ) (t ws : List ℕ) (nodes : ℕ) (g map : List ℕ) (y count : ℕ) (over lowest highest : List ℕ) : Type 0 where
-  pub types : MetPart (word_of ws) n t nodes g map y count over
-  pub lows : MetPart (λ l. l.lowest) n t nodes g map y count lowest
-  pub highs : MetPart (λ l. l.highest) n t nodes g map y count highest
+-- The array holds the meet of all g labels over each node of s, for every accepted table with these words.
+abbrev pub MetBy : ℕ → List ℕ → ℕ → List ℕ → List ℕ → List Meet → Type 0
+MetBy n ws nodes g map met = (t : List ℕ) → accepted n t ≡ true → Words n t false ws → Met n t ws nodes g map 0 (size g) met
 
--- The three arrays hold the meet of all g labels over each node of s, for every accepted table with these words.
-abbrev pub MetBy : ℕ → List ℕ → ℕ → List ℕ → List ℕ → List ℕ → List ℕ → List ℕ → Type 0
-MetBy n ws nodes g map over lowest highest =
-    (t : List ℕ) → accepted n t ≡ true → Words n t false ws → Met n t ws nodes g map 0 (size g) over lowest highest
-
--- If the type of `label` is below 64, `label` is the wanted label; else there is no wanted label.
-pub record LabelHeld (wanted : Option Label) (label : Label) : Type 0 where
-  pub some-stands : label.type < 64 → wanted ≡ some label
-  pub none-stands : 64 ≤ label.type → found wanted ≡ false
-
--- `label` holds the wanted label of p over the label q with this word of its type and these levels, for every accepted table with these words.
-abbrev pub WantedLabelOver : ℕ → List ℕ → Label → ℕ → ℕ → ℕ → Label → Type 0
-WantedLabelOver n ws p over lowest highest label =
-    (t : List ℕ) → accepted n t ≡ true → Words n t false ws → (q : Label) → Known n q → over ≡ word_of ws q → lowest ≡ q.lowest →
-    highest ≡ q.highest → LabelHeld (wanted_label n t p q) label
+-- r answers the wanted label of p over the label q that `met` holds, for every accepted table with these words.
+abbrev pub WantedLabelOver : ℕ → List ℕ → Label → Meet → Answer Label → Type 0
+WantedLabelOver n ws p met r =
+    (t : List ℕ) → accepted n t ≡ true → Words n t false ws → (q : Label) → Known n q → met ≡ meet_of ws q → r ≡ answer (wanted_label n t p q)
 
 -- the wanted label of the node v of s
 abbrev pub wanted_at : ℕ → List ℕ → List ℕ → List ℕ → List ℕ → ℕ → Option Label

@@ -4,53 +4,48 @@
 
 #![tactic(auto)]
 
-ghost use Rattle.std.specs.Prelude.{◌≡◌, ℕ, ◌≤◌, ◌<◌, length, get_or};
+ghost use Rattle.std.specs.Prelude.{◌≡◌, ◌≤◌, ◌<◌, length, option_map};
 ghost use Rattle.lattice.specs.Labels.{wanted_level};
 ghost use Rattle.layout.specs.Builder.{stated};
 ghost use Rattle.wanting.specs.Asked.{Asked};
-ghost use Rattle.wanting.specs.Wanted.{LabelsOver, MetBy, MetLong, WantedLabelOver, WantsAll};
+ghost use Rattle.wanting.specs.Wanted.{LabelsOver, MetBy, WantedLabelOver, WantsAll};
 
 use layout::Label;
 
-// Stores `value` in each of the first `nodes` words.
-fn clear(value: u64, nodes: usize, words: &mut [u64; 255])
-    requires { (nodes ≤ 255) × (length words.old ≡ 255) }
-    ensures words_len { length words.new ≡ 255 }
-    ensures by_index { (v : ℕ) → v < nodes → get_or words.new v 0 ≡ value }
-{
-    let mut v = 0;
-    while v < nodes {
-        words[v] = value;
-        v += 1;
-    }
+// The meet of all g labels over a node of s: the word of the types below its type, and its levels.
+#[derive(Clone, Copy)]
+struct Meet {
+    word: u64,
+    lowest: u8,
+    highest: u8,
 }
 
-// Finds the meet of all g labels over each of the `nodes` nodes of s, top if none. `over` gets the word of the types below the meet of the
-// types, and `lowest` and `highest` get the overlap of the ranges.
+// Finds the meet of all g labels over each of the `nodes` nodes of s, top if none.
 fn meet_over<'a>(
     n: usize,
     down: &'a [u64; 64],
     nodes: usize,
     g: &'a [u16],
     map: &'a [u16; 255],
-    over: &mut [u64; 255],
-    lowest: &mut [u8; 255],
-    highest: &mut [u8; 255],
+    met: &mut [Meet; 255],
 )
-    requires labels_over { LabelsOver n nodes g.now map.now × MetLong over.old lowest.old highest.old }
-    requires by_index { ((v : ℕ) → v < nodes → get_or lowest.old v 0 ≡ 0) × ((v : ℕ) → v < nodes → get_or highest.old v 0 ≡ 255) }
-    ensures { MetBy n down.now nodes g.now map.now over.new lowest.new highest.new }
+    requires { LabelsOver n nodes g.now map.now × (length met.old ≡ 255) }
+    ensures { MetBy n down.now nodes g.now map.now met.new }
 {
-    clear(down[n - 1], nodes, over);
-    let mut y = g[0] as usize;
-    while 0 < y {
-        y -= 1;
+    met[..nodes].fill(Meet {
+        word: down[n - 1],
+        lowest: 0,
+        highest: 255,
+    });
+    for y in (0..g[0] as usize).rev() {
         let v = map[y] as usize;
         let a = layout::label_at(g, y);
-        let word = over[v];
-        over[v] = down[a.kind as usize] & word;
-        lowest[v] = layout::greater(a.lowest, lowest[v]);
-        highest[v] = layout::lesser(a.highest, highest[v]);
+        let before = met[v];
+        met[v] = Meet {
+            word: down[a.kind as usize] & before.word,
+            lowest: a.lowest.max(before.lowest),
+            highest: a.highest.min(before.highest),
+        };
     }
 }
 
@@ -61,17 +56,17 @@ fn wanted_level(widest: u8, p: u8, q: u8) -> u8
     if p == q { widest } else { p }
 }
 
-// The wanted label for the label p in s. The meet of all g labels is given by the word of its type and by its levels. Where there is no
-// wanted label, the answer has the type 64.
-fn wanted_label(n: usize, down: &[u64; 64], p: Label, over: u64, lowest: u8, highest: u8) -> Label
+// The wanted label for the label p in s, if there is one.
+fn wanted_label(n: usize, down: &[u64; 64], p: Label, met: Meet) -> Option<Label>
     requires { (n ≤ 64) × (p.kind < n) }
-    ensures { WantedLabelOver n down.now (stated p) over lowest highest (stated result) }
+    ensures { WantedLabelOver n down.now (stated p) met (option_map stated result) }
 {
-    Label {
-        kind: lattice::wanted::wanted(n, down, p.kind as usize, over),
-        lowest: wanted_level(0, p.lowest, lowest),
-        highest: wanted_level(255, p.highest, highest),
-    }
+    let kind = lattice::wanted::wanted(n, down, p.kind as usize, met.word)?;
+    Some(Label {
+        kind,
+        lowest: wanted_level(0, p.lowest, met.lowest),
+        highest: wanted_level(255, p.highest, met.highest),
+    })
 }
 
 // Stores the wanted label of each node of s. Answers whether every node, the root too, has a wanted label.
@@ -88,28 +83,18 @@ pub fn wanted_labels<'a>(
 {
     let nodes = s[0] as usize;
     let down = lattice::words::read_words(n, table);
-    let mut over = [0u64; 255];
-    let mut lowest = [0u8; 255];
-    let mut highest = [255u8; 255];
-    meet_over(
-        n,
-        &down,
-        nodes,
-        g,
-        map,
-        &mut over,
-        &mut lowest,
-        &mut highest,
-    );
-    let mut v = 0;
-    while v < nodes {
+    let mut met = [Meet {
+        word: 0,
+        lowest: 0,
+        highest: 0,
+    }; 255];
+    meet_over(n, &down, nodes, g, map, &mut met);
+    for v in 0..nodes {
         let p = layout::label_at(s, v);
-        let label = wanted_label(n, &down, p, over[v], lowest[v], highest[v]);
-        if 64 <= label.kind {
+        let Some(label) = wanted_label(n, &down, p, met[v]) else {
             return false;
-        }
+        };
         layout::put_label(labels, layout::HEADER * v, label);
-        v += 1;
     }
     true
 }

@@ -7,8 +7,8 @@ use Prim.Native.Nat.{ℕ, ◌≤◌, ◌<◌}
 use native.Mathlib.Omega.{arith}
 use borrow.Author.Tests.{le-leb}
 use lib.ListN.{length, take}
-use Rattle.replies.specs.declared.Reply.{Reply}
-use Rattle.replies.specs.declared.Reply.TheVariants.{Length}
+use Rattle.replies.specs.Replies.{Reply}
+use Rattle.replies.specs.Replies.{Length}
 use Rattle.replies.specs.Reply.{resulting, length_of}
 use Rattle.versions.specs.State.{Made, made, stopped, taken, Programs, way, starts_with, begins, unpacked, held}
 use Rattle.versions.specs.Slots.{programs_in, Slotted, Parted}

@@ -7,10 +7,10 @@ use Prim.Native.Nat.{ℕ, ◌+◌, ◌-◌, ◌≤◌}
 use native.Mathlib.Omega.{arith}
 use lib.ListN.{length, take, drop, replicate, length-replicate}
 use Rattle.lattice.specs.Table.{accepted}
-use Rattle.acceptance.specs.declared.Opened.{Opened}
+use Rattle.acceptance.specs.Reply.{TableAnswer}
 use Rattle.acceptance.proofs.Acceptance.{accepted-opened}
-use Rattle.replies.specs.declared.Reply.{Reply}
-use Rattle.replies.specs.declared.Reply.TheVariants.{Length}
+use Rattle.replies.specs.Replies.{Reply}
+use Rattle.replies.specs.Replies.{Length}
 use Rattle.replies.specs.Reply.{resulting, refusing, length_of, Bounded}
 use Rattle.engine.specs.Generalizing.{generalized_beside}
 use Rattle.calls.specs.Calls.{checked, generalizing}
@@ -60,7 +60,7 @@ pub record Common (n : ℕ) (t old p : List ℕ) (r : Reply) (out : List ℕ) : 
 
 generalized-call : (n : ℕ) (t list a b out : List ℕ) → accepted n t ≡ true → length list ≡ 0 → generalized_beside n t list a b out ≡ generalizing n t a b out
 generalized-call n t list a b out ok empty =
-    sym (ap (λ (o : Opened). checked (λ r. refusing r out) o (generalized_beside n t list a b out)) (accepted-opened n t ok)) ∙
+    sym (ap (λ (o : TableAnswer). checked (λ r. refusing r out) o (generalized_beside n t list a b out)) (accepted-opened n t ok)) ∙
     generalizing-plain n t list empty out a b
 
 pub common-part : (n : ℕ) (t list old p : List ℕ) (l : ℕ) (r : Reply) (out : List ℕ) → accepted n t ≡ true → length list ≡ 0 → Parted old →

@@ -7,8 +7,8 @@ use native.Mathlib.Decide.{dec_le}
 use native.Mathlib.Omega.{arith}
 use lib.ListN.{length, take, drop, get_or, length-drop}
 use lib.Seq.{length-take-le, take_all, take-suc, append_snoc, split_at}
-use Rattle.replies.specs.declared.Reply.{Reply}
-use Rattle.replies.specs.declared.Reply.TheVariants.{Length}
+use Rattle.replies.specs.Replies.{Reply}
+use Rattle.replies.specs.Replies.{Length}
 use Rattle.replies.specs.Reply.{resulting, length_of, Bounded}
 use Rattle.gathering.specs.Gathering.{length_at}
 use Rattle.gathering.proofs.Told.{none-some}

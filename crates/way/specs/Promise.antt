@@ -1,8 +1,8 @@
 -- What the functions that go the way of a store's programs promise to each other.
 use Rattle.std.specs.Prelude.{◌≡◌, Bool, true, false, List, [], ◌∷◌, ◌++◌, ℕ, suc, ◌≤◌, length, take, drop, get_or}
 use Rattle.std.proofs.Math.Option.{none, some}
-use Rattle.replies.specs.declared.Reply.{Reply}
-use Rattle.replies.specs.declared.Reply.TheVariants.{Length}
+use Rattle.replies.specs.Replies.{Reply}
+use Rattle.replies.specs.Replies.{Length}
 use Rattle.replies.specs.Reply.{resulting, Bounded}
 use Rattle.gathering.specs.Gathering.{length_at}
 use Rattle.versions.specs.State.{Made, taken, Programs, empty_state, way_from, held}

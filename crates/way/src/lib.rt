@@ -6,14 +6,15 @@
 
 ghost use Rattle.std.specs.Prelude.{◌≡◌, true, ℕ, ◌*◌, ◌≤◌, ◌<◌, length, drop, take};
 ghost use Rattle.bounds.specs.Opening.{OpenedFor};
-ghost use Rattle.replies.specs.declared.Reply.TheVariants.{Length};
+ghost use Rattle.replies.specs.Replies.{Length, told};
 ghost use Rattle.replies.specs.Reply.{Bounded, resulting};
 ghost use Rattle.gathering.specs.Gathering.{length_at};
-ghost use Rattle.versions.specs.State.{joined, starts_with, taken, way};
+ghost use Rattle.versions.specs.State.{joined, taken, way};
 ghost use Rattle.versions.specs.Slots.{Absent, Parted, Slotted, measured_in, programs_in};
 ghost use Rattle.way.specs.Promise.{Joins, Led, Opens, Steps};
 
-use replies::Reply;
+use engine::generalizing::CommonPart;
+use replies::Refusal;
 
 // Opens a buffer: fills the slots with its programs and goes their way. Answers whether the way ends in the first bytes of the buffer.
 pub fn is_held<'a>(
@@ -35,28 +36,10 @@ pub fn is_held<'a>(
     if !versions::unpacking::unpack(n, table, buffer, slots) {
         return false;
     }
-    let reply = go(n, table, sets, cells, slots, part, state);
-    let Reply::Length(used) = reply else {
+    let Ok(used) = go(n, table, sets, cells, slots, part, state) else {
         return false;
     };
-    is_start(&state[..used], buffer)
-}
-
-// Whether the bytes begin with those of `start`.
-fn is_start(start: &[u8], bytes: &[u8]) -> bool
-    ensures { result ≡ starts_with start.now bytes.now }
-{
-    if bytes.len() < start.len() {
-        return false;
-    }
-    let mut i = 0;
-    while i < start.len() {
-        if start[i] != bytes[i] {
-            return false;
-        }
-        i += 1;
-    }
-    true
+    buffer.starts_with(&state[..used])
 }
 
 // Goes the way of the programs, in a room of the state's length. The answer tells how many bytes are used, or is 11, 13 or 21 where the way
@@ -69,30 +52,24 @@ pub fn go<'a>(
     slots: &[u8],
     part: &mut [u8],
     state: &mut [u8],
-) -> Reply
+) -> Result<usize, Refusal>
     requires { OpenedFor true n table.now sets.now cells.now × Slotted slots.now × Parted part.old × (2 ≤ length state.old) × (length state.old ≤ 16384) }
     ensures long { length state.new ≡ length state.old }
-    ensures inside { Bounded result (length state.old) }
+    ensures inside { Bounded (told result) (length state.old) }
     ensures parted { Parted part.new }
-    ensures goes { taken (resulting result state.new) ≡ way n table.now (length state.old) (programs_in slots.now) }
-    ensures led { (used : ℕ) → result ≡ Length used →
+    ensures goes { taken (resulting (told result) state.new) ≡ way n table.now (length state.old) (programs_in slots.now) }
+    ensures led { (used : ℕ) → (told result) ≡ Length used →
         Led n table.now (length state.old) (programs_in slots.now) 16 part.new (take used state.new) }
 {
     gathering::parts::put_length(0, 0, part);
     gathering::parts::put_length(0, 0, state);
     let mut used = 2;
-    let mut version = 0;
-    while version < versions::slots::VERSIONS {
+    for version in 0..versions::slots::VERSIONS {
         if versions::slots::length_in(slots, version) != 0 {
-            let reply = step(n, table, sets, cells, slots, version, part, state);
-            let Reply::Length(next) = reply else {
-                return reply;
-            };
-            used = next;
+            used = step(n, table, sets, cells, slots, version, part, state)?;
         }
-        version += 1;
     }
-    Reply::Length(used)
+    Ok(used)
 }
 
 // One step of the way: joins the program of a version to the common part and makes the new state.
@@ -105,17 +82,14 @@ pub fn step<'a>(
     version: usize,
     part: &mut [u8],
     state: &mut [u8],
-) -> Reply
+) -> Result<usize, Refusal>
     requires { OpenedFor true n table.now sets.now cells.now × Slotted slots.now ×
         (version < 16) × (1 ≤ length_at (drop (version * 4856) slots.now)) × Parted part.old × (2 ≤ length state.old) × (length state.old ≤ 16384) }
-    ensures { Steps n table.now (programs_in slots.now) version part.old state.old result part.new state.new }
+    ensures { Steps n table.now (programs_in slots.now) version part.old state.old (told result) part.new state.new }
 {
     let start = version * versions::slots::SLOT + 2;
     let length = versions::slots::length_in(slots, version);
-    let reply = join(n, table, sets, cells, &slots[start..start + length], part);
-    let Reply::Length(size) = reply else {
-        return reply;
-    };
+    let size = join(n, table, sets, cells, &slots[start..start + length], part)?;
     versions::packing::pack(n, table, slots, version + 1, &part[2..2 + size], state)
 }
 
@@ -128,17 +102,17 @@ fn join<'a>(
     cells: &'a [[u8; 64]],
     program: &[u8],
     part: &mut [u8],
-) -> Reply
+) -> Result<usize, Refusal>
     requires { OpenedFor true n table.now sets.now cells.now × (1 ≤ length program.now) × (length program.now ≤ 4854) × Parted part.old }
-    ensures { Joins (joined n table.now (measured_in part.old) program.now) result part.new }
+    ensures { Joins (joined n table.now (measured_in part.old) program.now) (told result) part.new }
 {
     let length = gathering::parts::length_at(part, 0);
     if length == 0 {
         versions::slots::put_measured(program, 0, part);
-        return Reply::Length(program.len());
+        return Ok(program.len());
     }
     let mut record = [0u8; gathering::LONGEST];
-    let reply = engine::generalizing::of_records(
+    let size = engine::operation::of_records::<CommonPart>(
         n,
         table,
         &table[..0],
@@ -147,10 +121,7 @@ fn join<'a>(
         &part[2..2 + length],
         program,
         &mut record,
-    );
-    let Reply::Length(size) = reply else {
-        return reply;
-    };
+    )?;
     versions::slots::put_measured(&record[..size], 0, part);
-    Reply::Length(size)
+    Ok(size)
 }

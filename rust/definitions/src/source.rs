@@ -232,6 +232,7 @@ fn declares(line: &str) -> Option<(String, bool, Kind)> {
             rest = r;
         } else if let Some(r) = rest
             .strip_prefix("abbrev ")
+            .or_else(|| rest.strip_prefix("pattern "))
             .or_else(|| rest.strip_prefix("unfoldable "))
         {
             defines = true;

@@ -45,7 +45,7 @@ pub fn rewrite_appropriate(
 }
 
 /// Writes the common part of two records, as [`generalize`](crate::generalize) does, if the
-/// records obey a list of types for features. The common part obeys the list too. Takes 116
+/// records obey a list of types for features. The common part obeys the list too. Takes 108
 /// KiB of stack.
 ///
 /// ```

@@ -8,7 +8,7 @@ use crate::{Refusal, foreign};
 /// `reasons` one byte for each of its links: the [`Reason`](crate::Reason) why the link is kept.
 /// The reasons stand in the order of the links in the written difference: node by node, and for
 /// each node by feature. The bytes behind the last reason are unchanged. Gives the length of
-/// the difference. Takes 56 KiB of stack.
+/// the difference. Takes 52 KiB of stack.
 ///
 /// ```
 /// use record_engine::{LONGEST_RECORD, MOST_LINKS, Reason};
@@ -53,7 +53,7 @@ pub fn difference_explained(
 
 /// Writes the difference of two records as [`difference`](crate::difference) does, but orders
 /// the links by a reading order: by the place of their feature in `list`, then by the number of
-/// the node that they leave. Takes 56 KiB of stack.
+/// the node that they leave. Takes 52 KiB of stack.
 ///
 /// ```
 /// use record_engine::{FEATURES, LONGEST_RECORD, Refusal, difference_by, unify};
@@ -100,7 +100,7 @@ pub fn difference_by(
 
 /// Writes the difference of two records as [`difference_by`] does, and the
 /// [`Reason`](crate::Reason) for each of its links as [`difference_explained`] does. Takes
-/// 56 KiB of stack.
+/// 52 KiB of stack.
 ///
 /// ```
 /// use record_engine::{FEATURES, LONGEST_RECORD, MOST_LINKS, Reason, difference_explained_by};

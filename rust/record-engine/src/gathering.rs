@@ -141,7 +141,7 @@ pub fn gathering_begin(n: usize, table: &[u8], gathering: &mut [u8]) -> Result<u
 }
 
 /// Adds a record to a gathering in a lent buffer, and gives the length of the new common part.
-/// Takes 112 KiB of stack.
+/// Takes 108 KiB of stack.
 ///
 /// # Errors
 ///

@@ -214,7 +214,7 @@ fn number(bytes: &[u8]) -> usize {
 
 /// Puts a record into a store in a lent buffer, under a version, 0 to 15, that is absent. Gives
 /// the number of used bytes. The bytes behind them are unchanged. Two zero bytes are an empty
-/// store. Takes 256 KiB of stack.
+/// store. Takes 252 KiB of stack.
 ///
 /// ```
 /// use record_engine::{LONGEST_RECORD, Refusal, STORE_LENGTH, store_drop, store_put, store_read};
@@ -255,7 +255,7 @@ pub fn store_put(
 }
 
 /// Writes the written record of the program that was put under a version into a store in a lent
-/// buffer, and gives its length. Takes 244 KiB of stack.
+/// buffer, and gives its length. Takes 240 KiB of stack.
 ///
 /// # Errors
 ///
@@ -275,7 +275,7 @@ pub fn store_read(
 }
 
 /// Removes a version from a store in a lent buffer, and gives the number of used bytes. The
-/// bytes behind them are unchanged. Takes 244 KiB of stack.
+/// bytes behind them are unchanged. Takes 240 KiB of stack.
 ///
 /// # Errors
 ///

@@ -2,10 +2,8 @@ use mathlib.Core.Path.{ap}
 use mathlib.Core.Bool.{not}
 use Prim.Native.Nat.{◌+◌}
 use mathlib.Core.Path.{sym, subst, ◌∙◌}
-use mathlib.Core.Bool.{Bool, false}
+use mathlib.Core.Bool.{false}
 use native.Mathlib.Omega.{arith}
-use borrow.Author.Tests.{not-true, not-false}
-use Rattle.lattice.specs.Words.{CoversOf}
 use Rattle.lattice.proofs.Every.{refuted, held}
 use Rattle.acceptance.proofs.Acceptance.{answer-order, order-words, lower-words, answer-found}
 use Rattle.acceptance.proofs.Spanning.{Judging, judge-begin, judge-next, judge-kept, judge-end, rows-owned, rows-hold, rows-fail, rows-unset}
@@ -21,28 +19,27 @@ returns-then-not-are_rows_set c t size words =
 pub loop-i-init : goal.loop-i-init
 loop-i-init c = (search rules, judge-begin _ _)
 
-pub covers_of-found-requires : goal.covers_of-found-requires
-covers_of-found-requires c = (search rules, search rules, rows-owned _ _ (held c.are_rows_set.ensures (ap not c.if-not-are_rows_set.false)))
+pub covers_of-requires : goal.covers_of-requires
+covers_of-requires c = (search rules, search rules, rows-owned _ _ (held c.are_rows_set.ensures (ap not c.if-not-are_rows_set.false)))
 
-pub returns-then-not-found : goal.returns-then-not-found
-returns-then-not-found c t size words =
+pub returns-in_default : goal.returns-in_default
+returns-in_default c t size words =
     let turn = c.loop-i in
     answer-order c.args.n t c.args.down.now size words
     (rows-fail c.args.n c.args.down.now turn.i (search rules)
-    (c.covers_of-found.ensures.no-stands (not-true _ c.if-not-found.true)))
+    c.in_default.ensures.0)
 
 pub loop-i-preserved : goal.loop-i-preserved
 loop-i-preserved c =
     let turn = c.loop-i in
     let n = c.args.n in
     let ws = c.args.down.now in
-    let found = c.covers_of-found in
-    let ordered = subst (λ (b : Bool). CoversOf n ws turn.i b found.result.word) (not-false _ c.if-not-found.false) found.ensures in
+    let covers = c.in-Some.ensures in
     let next = Judging n ws (turn.i + 1) in (
       search rules,
       elim c.if-all.branch [
-        | then-all w ↦ subst next (sym w.all-is) (judge-next n ws turn.invariant.1 ordered (search rules) c.requires w.if-all.true (w.are_bounded_within-all.ensures n c.requires))
-        | else-all w ↦ subst next (sym w.all-is) (judge-kept n ws turn.invariant.1 ordered w.if-all.false)
+        | then-all w ↦ subst next (sym w.all-is) (judge-next n ws turn.invariant.1 covers (search rules) c.requires w.if-all.true (w.are_bounded_within-all.ensures n c.requires))
+        | else-all w ↦ subst next (sym w.all-is) (judge-kept n ws turn.invariant.1 covers w.if-all.false)
       ],
     )
 

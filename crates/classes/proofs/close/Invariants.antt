@@ -7,7 +7,7 @@ use Rattle.classes.proofs.close.Given as goal
 
 abbrev pub invariant-loop-reach : goal.invariant-loop-reach
 invariant-loop-reach l =
-    Joining l.nodes l.second l.initial.start l.initial.end l.initial.pool l.class l.start l.end l.pool l.waiting l.reach.used l.reach.count × (length l.waiting ≡ length l.initial.waiting)
+    Joining l.nodes l.second l.initial.spans.start l.initial.spans.end l.initial.pool l.class l.spans.start l.spans.end l.pool l.waiting l.reach.used l.reach.count × (length l.waiting ≡ length l.initial.waiting)
 
 abbrev pub decreases-loop-reach : goal.decreases-loop-reach
 decreases-loop-reach l =

@@ -3,6 +3,7 @@ use mathlib.Core.Path.{sym, ◌∙◌}
 use Prim.Native.Nat.{ℕ, ◌<◌}
 use native.Mathlib.Omega.{arith}
 use lib.ListN.{length-replicate}
+use Rattle.replies.specs.Replies.{told}
 use Rattle.versions.proofs.SlotLaws.{absent-replicate, part-blank, clear-slot}
 use Rattle.contents.proofs.Among.{wide, not-held, drop-above, drop-absent, drop-goes}
 use Rattle.contents.proofs.drop_among.Goals as goal
@@ -77,4 +78,4 @@ returns c =
     let low : c.args.version < 16 = omega (arith, c.if-version-ge-VERSIONS.false) in
     let went = c.go.ensures in
     drop-goes opens c.if-not-is_held.false c.args.state.now c.requires.1 c.args.version low
-    (λ e. c.if-length_in-eq0.false (c.length_in.ensures.0 ∙ e)) _ c.go.result (clear-slot opens.slotted low c.put_length.ensures).1 went.long went.inside went.goes
+    (λ e. c.if-length_in-eq0.false (c.length_in.ensures.0 ∙ e)) _ (told c.go.result) (clear-slot opens.slotted low c.put_length.ensures).1 went.long went.inside went.goes

@@ -5,12 +5,12 @@ use Rattle.contents.proofs.Programs.{program-refused, program-written}
 use Rattle.contents.proofs.write_program.Goals as goal
 
 pub of_graph-requires : goal.of_graph-requires
-of_graph-requires c = (reads-loaded c.args.n c.args.bytes.now c.read-verdict.ensures c.in-Accepted.is).sound
+of_graph-requires c = (reads-loaded c.args.n c.args.bytes.now c.read.ensures c.in_default.is).sound
 
-pub returns-in-Refused : goal.returns-in-Refused
-returns-in-Refused c = program-refused c.read-verdict.ensures _ c.in-Refused.is c.args.output.now c.requires.1
+pub returns-in-Err : goal.returns-in-Err
+returns-in-Err c = program-refused c.read.ensures _ c.in-Err.is c.args.output.now c.requires.1
 
-pub returns-in-Accepted : goal.returns-in-Accepted
-returns-in-Accepted c =
-    let held = told-accepted c.read-verdict.ensures c.in-Accepted.is in
+pub returns : goal.returns
+returns c =
+    let held = told-accepted c.read.ensures c.in_default.is in
     program-written c.args.n c.args.bytes.now _ held.is c.args.output.now c.requires.1 c.of_graph.ensures

@@ -13,16 +13,15 @@ use Rattle.graphs.proofs.Walk.{some-injective}
 use Rattle.lattice.specs.Label.{Label}
 use Rattle.acceptance.specs.declared.TableFault.{TableFault}
 use Rattle.acceptance.specs.declared.TableFault.TheVariants.{Size, Order, Bounds}
-use Rattle.acceptance.specs.declared.Opened.{Opened}
-use Rattle.acceptance.specs.declared.Opened.TheVariants.{Accepted, Refused}
-use Rattle.acceptance.specs.Reply.{opened}
+use Rattle.std.specs.Prelude.{Ok, Err}
+use Rattle.acceptance.specs.Reply.{opened, TableAnswer}
 use Rattle.record.specs.declared.GraphFault.{GraphFault}
 use Rattle.record.specs.declared.GraphFault.TheVariants.{Malformed, OutOfRange, Cyclic, Unreached, Inappropriate}
 use Rattle.record.specs.Read.{Reading, refused, accepted, reading}
 use Rattle.link_orders.specs.LinkOrders.{is_reading_order}
 use Rattle.replies.specs.declared.Side.{Side}
 use Rattle.replies.specs.declared.Side.TheVariants.{First, Second}
-use Rattle.replies.specs.declared.Reply.TheVariants.{Table, Graph, ReadingOrder, NoReasonRoom}
+use Rattle.replies.specs.Replies.{Table, Graph, ReadingOrder, NoReasonRoom}
 use Rattle.replies.specs.Reply.{Result, refusing, length_of}
 use Rattle.pairs.specs.Pair.{read_both}
 use Rattle.engine.specs.Rewriting.{rewritten}
@@ -52,13 +51,13 @@ graph-early Inappropriate side (k, low, high, e) = let q : 18 ≡ k = some-injec
 module _ (n : ℕ) (t out : List ℕ) where
   -- A reply from 8 to 13 says that the table is accepted and comes from what follows the table.
   past-table : (next : Result) → RefusedAfterReading (checked (λ r. refusing r out) (opened n t) next).reply →
-      (opened n t ≡ Accepted) × RefusedAfterReading next.reply
+      (opened n t ≡ Ok tt) × RefusedAfterReading next.reply
   past-table next = go (opened n t) refl
     where
-      go : (o : Opened) → opened n t ≡ o → RefusedAfterReading (checked (λ r. refusing r out) o next).reply →
-          (opened n t ≡ Accepted) × RefusedAfterReading next.reply
-      go (Refused fault) h late = absurd (table-early fault late)
-      go Accepted h late = (h, late)
+      go : (o : TableAnswer) → opened n t ≡ o → RefusedAfterReading (checked (λ r. refusing r out) o next).reply →
+          (opened n t ≡ Ok tt) × RefusedAfterReading next.reply
+      go (Err fault) h late = absurd (table-early fault late)
+      go (Ok tt) h late = (h, late)
 
   -- A reply of rewriting from 8 to 13 says that the record is accepted.
   past_one : (a : List ℕ) → RefusedAfterReading (rewritten (reading n a) out).reply → (rows : List (Row Label)) × (reading n a ≡ accepted rows)
@@ -70,11 +69,11 @@ module _ (n : ℕ) (t out : List ℕ) where
 
   -- A reply from 8 to 13 says that both records are accepted.
   past-both : (a b : List ℕ) (next : List (Row Label) → List (Row Label) → Result) →
-      RefusedAfterReading (read_both (λ r. refusing r out) (reading n a) (reading n b) next).reply → opened n t ≡ Accepted → BothAccepted n t a b
+      RefusedAfterReading (read_both (λ r. refusing r out) (reading n a) (reading n b) next).reply → opened n t ≡ Ok tt → BothAccepted n t a b
   past-both a b next = go (reading n a) (reading n b) refl refl
     where
       go : (o p : Reading) → reading n a ≡ o → reading n b ≡ p → RefusedAfterReading (read_both (λ r. refusing r out) o p next).reply →
-          opened n t ≡ Accepted → BothAccepted n t a b
+          opened n t ≡ Ok tt → BothAccepted n t a b
       go (refused fault) p h i late opens = absurd (graph-early fault First late)
       go (accepted s) (refused fault) h i late opens = absurd (graph-early fault Second late)
       go (accepted s) (accepted g) h i late opens = (s, g, record { opens = opens; first = h; second = i })
@@ -87,7 +86,7 @@ module _ (n : ℕ) (t out : List ℕ) where
       past-both a b next later opens
 
   pub rewriting-accepted : (a : List ℕ) → RefusedAfterReading (rewriting n t a out).reply →
-      (opened n t ≡ Accepted) × ((rows : List (Row Label)) × (reading n a ≡ accepted rows))
+      (opened n t ≡ Ok tt) × ((rows : List (Row Label)) × (reading n a ≡ accepted rows))
   unfolding rewriting
   rewriting-accepted a late = let (opens, later) = past-table (rewritten (reading n a) out) late in (opens, past_one a later)
 
@@ -113,7 +112,7 @@ module _ (n : ℕ) (t out : List ℕ) where
         go (is_reading_order list) refl later opens
       where
         go : (l : Bool) → is_reading_order list ≡ l →
-            RefusedAfterReading (cond l (parting (by_reading list) n t a b out) (refusing ReadingOrder out)).reply → opened n t ≡ Accepted →
+            RefusedAfterReading (cond l (parting (by_reading list) n t a b out) (refusing ReadingOrder out)).reply → opened n t ≡ Ok tt →
             (is_reading_order list ≡ true) × BothAccepted n t a b
         go true h late opens = (h, past-both a b (differed_rows (by_reading list) n t out) late opens)
         go false h (k, low, high, e) opens = let q : 19 ≡ k = some-injective e in absurd (omega arith)

@@ -8,6 +8,7 @@ use Prim.Native.Nat.{ℕ}
 use native.Mathlib.Omega.{arith}
 use lib.Dec.{eqb}
 use lib.ListN.{length, take}
+use Rattle.std.specs.Prelude.{Ok, Err}
 use Rattle.graphs.specs.Rows.{Row, from}
 use Rattle.graphs.specs.Number.{canonical}
 use Rattle.graphs.specs.Generalize.{generalization}
@@ -16,14 +17,12 @@ use Rattle.graphs.specs.OfRows.{same_pair, same_either}
 use Rattle.graphs.proofs.Search.{not-true-false}
 use Rattle.graphs.proofs.Difference.ByNumber.{by-number-order}
 use Rattle.lattice.specs.Label.{Label}
-use Rattle.acceptance.specs.declared.Opened.{Opened}
-use Rattle.acceptance.specs.declared.Opened.TheVariants as opened
+use Rattle.acceptance.specs.Reply.{TableAnswer}
 use Rattle.lattice.specs.Labels.{table_labels}
 use Rattle.acceptance.specs.Reply as table
 use Rattle.acceptance.proofs.Acceptance.{opened-accepted}
-use Rattle.encode.specs.declared.Written.{Written}
-use Rattle.encode.specs.declared.Written.TheVariants as written
-use Rattle.encode.specs.Encode.{written_out}
+use Rattle.encode.specs.declared.Unwritten.TheVariants as unwritten
+use Rattle.encode.specs.Encode.{written_out, Writing}
 use Rattle.record.specs.declared.GraphFault.TheVariants.{Inappropriate}
 use Rattle.record.specs.Read.{Reading, refused, accepted, reading, graph_of_rows}
 use Rattle.record.specs.Appropriate.{list_accepted, appropriate, reading_appropriate, Appropriate}
@@ -32,7 +31,7 @@ use Rattle.record.proofs.Theorems.{accepted-of-any-size}
 use Rattle.record.proofs.Allowed.{refused-appropriate, judged-appropriate, accepted-appropriate}
 use Rattle.record.proofs.Obeying.{appropriate-exact, appropriate-same, common-obeys, combination-obeys}
 use Rattle.replies.specs.declared.Side.TheVariants.{First, Second}
-use Rattle.replies.specs.declared.Reply.TheVariants.{Length, Graph, TypeList}
+use Rattle.replies.specs.Replies.{Length, Graph, TypeList}
 use Rattle.replies.specs.Reply.{Result, refusal, reply_of, refusing}
 use Rattle.calls.specs.Calls.{checked, rewriting, generalizing, unifying, differing}
 use Rattle.pairs.specs.Pair.{read_both}
@@ -104,48 +103,48 @@ module _ {n : ℕ} {t : List ℕ} {listed : Bool} {out : List ℕ} {call next : 
       call ≡ checked (λ r. refusing r out) (table.opened n t) plain
   call_kept plain kept passes = go (table.opened n t) refl
     where
-      list-tested : table.opened n t ≡ opened.Accepted → (b : Bool) → listed ≡ b → call ≡ plain
+      list-tested : table.opened n t ≡ Ok tt → (b : Bool) → listed ≡ b → call ≡ plain
       list-tested opens true e =
           let same = list-passed checks opens e in
           sym same ∙ kept (subst Passes (sym same) passes)
       list-tested opens false e =
           absurd (passes.0 (ap (λ (q : Result). refusal q.reply) (sym (list-refused checks opens e))))
 
-      go : (o : Opened) → table.opened n t ≡ o → call ≡ checked (λ r. refusing r out) o plain
-      go (opened.Refused fault) e = sym (table-before-list checks fault e)
-      go opened.Accepted e = list-tested e listed refl
+      go : (o : TableAnswer) → table.opened n t ≡ o → call ≡ checked (λ r. refusing r out) o plain
+      go (Err fault) e = sym (table-before-list checks fault e)
+      go (Ok tt) e = list-tested e listed refl
 
   -- 17 is given exactly where it is due, since what comes after the list never gives it.
-  call-list : (next.reply ≡ TypeList → ⊥) → (call.reply ≡ TypeList) ↔ ((table.opened n t ≡ opened.Accepted) × (listed ≡ false))
+  call-list : (next.reply ≡ TypeList → ⊥) → (call.reply ≡ TypeList) ↔ ((table.opened n t ≡ Ok tt) × (listed ≡ false))
   call-list = list-exact checks (λ fault e. let z : ◌≡◌ {A = ℕ} 0 1 = cc in omega arith)
 
   -- Beside a length, the table and the list are accepted.
   record Behind : Type 0 where
-    pub opens : table.opened n t ≡ opened.Accepted
+    pub opens : table.opened n t ≡ Ok tt
     pub passed : listed ≡ true
     pub does : next ≡ call
 
   behind : (l : ℕ) → call.reply ≡ Length l → Behind
   behind l q = go (table.opened n t) refl
     where
-      list-tested : table.opened n t ≡ opened.Accepted → (b : Bool) → listed ≡ b → Behind
+      list-tested : table.opened n t ≡ Ok tt → (b : Bool) → listed ≡ b → Behind
       list-tested opens true e = record { opens = opens; passed = e; does = list-passed checks opens e }
       list-tested opens false e =
           let h = ap (λ (r : Result). r.reply) (list-refused checks opens e) ∙ q in
           let z : ◌≡◌ {A = ℕ} 0 1 = cc in absurd (omega arith)
 
-      go : (o : Opened) → table.opened n t ≡ o → Behind
-      go (opened.Refused fault) e =
+      go : (o : TableAnswer) → table.opened n t ≡ o → Behind
+      go (Err fault) e =
           let h = ap (λ (r : Result). r.reply) (table-before-list checks fault e) ∙ q in
           let z : ◌≡◌ {A = ℕ} 0 1 = cc in absurd (omega arith)
-      go opened.Accepted e = list-tested e listed refl
+      go (Ok tt) e = list-tested e listed refl
 
 -- What follows the list never gives 17.
 
-written-other : (w : Written) → reply_of w ≡ TypeList → ⊥
-written-other (written.Length l) e = let z : ◌≡◌ {A = ℕ} 0 1 = cc in omega arith
-written-other written.TooLarge e = let z : ◌≡◌ {A = ℕ} 0 1 = cc in omega arith
-written-other written.NoRoom e = let z : ◌≡◌ {A = ℕ} 0 1 = cc in omega arith
+written-other : (w : Writing) → reply_of w ≡ TypeList → ⊥
+written-other (Ok l) e = let z : ◌≡◌ {A = ℕ} 0 1 = cc in omega arith
+written-other (Err unwritten.TooLarge) e = let z : ◌≡◌ {A = ℕ} 0 1 = cc in omega arith
+written-other (Err unwritten.NoRoom) e = let z : ◌≡◌ {A = ℕ} 0 1 = cc in omega arith
 
 module _ (out : List ℕ) where
   lone-other : (o : Reading) → (rewritten o out).reply ≡ TypeList → ⊥
@@ -199,7 +198,7 @@ module _ (n : ℕ) (t list out : List ℕ) where
 
   -- 17 is given exactly where the table is accepted and the list is not.
   abbrev pub ListFault : Type 0
-  ListFault = (table.opened n t ≡ opened.Accepted) × (list_accepted n list ≡ false)
+  ListFault = (table.opened n t ≡ Ok tt) × (list_accepted n list ≡ false)
 
   pub rewriting-list : (bytes : List ℕ) → ((rewriting_appropriate n t list bytes out).reply ≡ TypeList) ↔ ListFault
   rewriting-list bytes = call-list (rewriting-checked n t list out bytes) (lone-other out (reading_appropriate n t list bytes))
@@ -215,7 +214,7 @@ module _ (n : ℕ) (t list out : List ℕ) where
       (both-other out (unified_rows n t out) (unified-other out n t) (reading_appropriate n t list a) (reading_appropriate n t list b))
 
 -- 18 is given wherever a graph is accepted without the list and has a link that the list forbids.
-module _ (n : ℕ) (t list : List ℕ) (opens : table.opened n t ≡ opened.Accepted) (listed : list_accepted n list ≡ true) where
+module _ (n : ℕ) (t list : List ℕ) (opens : table.opened n t ≡ Ok tt) (listed : list_accepted n list ≡ true) where
   judged-by : (bytes : List ℕ) (rows : List (Row Label)) → reading n bytes ≡ accepted rows → (b : Bool) → appropriate t list rows ≡ b →
       reading_appropriate n t list bytes ≡ cond b (accepted rows) (refused Inappropriate)
   judged-by bytes rows reads b e =
@@ -270,7 +269,7 @@ length-passes r l e = (
 )
 
 -- a record in written form whose graph obeys the list
-module _ (n : ℕ) (t list bytes : List ℕ) (opens : table.opened n t ≡ opened.Accepted) (listed : list_accepted n list ≡ true) where
+module _ (n : ℕ) (t list bytes : List ℕ) (opens : table.opened n t ≡ Ok tt) (listed : list_accepted n list ≡ true) where
   obeys-written : WrittenRecord n bytes → (rows : List (Row Label)) → reading n bytes ≡ accepted rows → Appropriate t list (graph_of_rows rows) →
       Obeys n t list bytes
   unfolding rewriting

@@ -13,10 +13,9 @@ use Rattle.graphs.specs.Number.{canonical}
 use Rattle.graphs.specs.Order.{subsumes}
 use Rattle.graphs.specs.Difference.{by_number, meet_over, difference}
 use Rattle.lattice.specs.Label.{Label, no_label}
-use Rattle.acceptance.specs.declared.Opened.{Opened}
-use Rattle.acceptance.specs.declared.Opened.TheVariants.{Accepted, Refused}
+use Rattle.std.specs.Prelude.{Ok, Err}
 use Rattle.lattice.specs.Table as table
-use Rattle.acceptance.specs.Reply.{opened}
+use Rattle.acceptance.specs.Reply.{opened, TableAnswer}
 use Rattle.lattice.specs.Labels.{table_labels, wanted_range, wanted_label}
 use Rattle.lattice.proofs.Every.{every-all}
 use Rattle.lattice.proofs.Lawful.{inside}
@@ -29,8 +28,8 @@ use Rattle.record.proofs.Accepted.{Rules, accepted-rules, rules-of-any-size, rul
 use Rattle.record.proofs.Theorems.{written-reads}
 use Rattle.graphs.proofs.Lists.{tells-eqb}
 use Rattle.difference.specs.Promise.{wanted_along, all_wanted_along, difference_along}
-use Rattle.replies.specs.declared.Reply.{Reply}
-use Rattle.replies.specs.declared.Reply.TheVariants.{NotBelow, NoWantedType}
+use Rattle.replies.specs.Replies.{Reply}
+use Rattle.replies.specs.Replies.{NotBelow, NoWantedType}
 use Rattle.replies.specs.Reply.{Result, refusal, result_of, refusing}
 use Rattle.calls.specs.Calls.{checked, differing}
 use Rattle.pairs.specs.Pair.{read_both}
@@ -111,9 +110,9 @@ module _ (n : ℕ) (t : List ℕ) (ok : table.accepted n t ≡ true) (differ : t
       sym (ap (λ c. differed_before n t out g (numbered c)) fits)
 
 -- Two calls that agree over an accepted table agree over every table, since a refusal of the table comes first.
-checked-same : {X : Type 0} (refuse : Reply → X) (o : Opened) (x y : X) → (o ≡ Accepted → x ≡ y) → checked refuse o x ≡ checked refuse o y
-checked-same refuse (Refused fault) x y same = refl
-checked-same refuse Accepted x y same = same refl
+checked-same : {X : Type 0} (refuse : Reply → X) (o : TableAnswer) (x y : X) → (o ≡ Ok tt → x ≡ y) → checked refuse o x ≡ checked refuse o y
+checked-same refuse (Err fault) x y same = refl
+checked-same refuse (Ok tt) x y same = same refl
 
 -- Over a table that admits differences, the call gives what it gives by document 01 without Paper 6, whatever else is handed in.
 pub differing-before : (n : ℕ) (t : List ℕ) → table.admits n t ≡ true → (a b out : List ℕ) →
@@ -153,6 +152,6 @@ module _ (n : ℕ) (t : List ℕ) (differ : table.admits n t ≡ true) (out : Li
       read-case (accepted g) (refused fault) e = let z : ◌≡◌ {A = ℕ} 0 1 = cc in omega arith
       read-case (accepted g) (accepted s) e = before-other g (numbered (canonical eqb (graph_of_rows s))) e
 
-      table-case : (o : Opened) → Other (checked (λ r. refusing r out) o (read_both (λ r. refusing r out) (reading n a) (reading n b) next))
-      table-case (Refused fault) e = let z : ◌≡◌ {A = ℕ} 0 1 = cc in omega arith
-      table-case Accepted e = read-case (reading n a) (reading n b) e
+      table-case : (o : TableAnswer) → Other (checked (λ r. refusing r out) o (read_both (λ r. refusing r out) (reading n a) (reading n b) next))
+      table-case (Err fault) e = let z : ◌≡◌ {A = ℕ} 0 1 = cc in omega arith
+      table-case (Ok tt) e = read-case (reading n a) (reading n b) e

@@ -10,6 +10,7 @@ use Prim.Native.Nat.{ℕ}
 use native.Mathlib.Omega.{arith}
 use lib.Dec.{eqb}
 use lib.ListN.{take}
+use Rattle.std.specs.Prelude.{Ok, Err}
 use Rattle.graphs.specs.Graph.{Graph, TellsApart}
 use Rattle.graphs.specs.Rows.{Row}
 use Rattle.graphs.specs.Number.{Canonical, canonical}
@@ -37,12 +38,11 @@ use Rattle.lattice.proofs.AnySize.{
   combination-greatest,
   same-combination,
 }
-use Rattle.encode.specs.declared.Written.{Written}
-use Rattle.encode.specs.declared.Written.TheVariants as outcome
-use Rattle.encode.specs.Encode.{written_out}
+use Rattle.encode.specs.declared.Unwritten.TheVariants as unwritten
+use Rattle.encode.specs.Encode.{written_out, Writing}
 use Rattle.record.specs.Read.{reading, accepted, graph_of_rows}
 use Rattle.record.proofs.Theorems.{accepted-of-any-size, accepted-nodes}
-use Rattle.replies.specs.declared.Reply.TheVariants as replies
+use Rattle.replies.specs.Replies as replies
 use Rattle.replies.specs.Reply.{Result, refusal, refusing, reply_of, result_of}
 use Rattle.engine.specs.Unifying.{combined, unified_rows}
 use Rattle.calls.specs.Calls.{unifying}
@@ -54,13 +54,13 @@ pub tells-either : TellsApart same_either
 tells-either = same_beside_lem eqb eqb tells-eqb tells-eqb
 
 -- writing a graph refuses by 8 and 11 alone
-written-refusal : (w : Written) (k : ℕ) → refusal (reply_of w) ≡ some k → (k ≡ 8) ⊎ (k ≡ 11)
-written-refusal (outcome.Length l) k e = let z : ◌≡◌ {A = ℕ} 0 1 = cc in absurd (omega arith)
-written-refusal outcome.TooLarge k e = inr cc
-written-refusal outcome.NoRoom k e = inl cc
+written-refusal : (w : Writing) (k : ℕ) → refusal (reply_of w) ≡ some k → (k ≡ 8) ⊎ (k ≡ 11)
+written-refusal (Ok l) k e = let z : ◌≡◌ {A = ℕ} 0 1 = cc in absurd (omega arith)
+written-refusal (Err unwritten.TooLarge) k e = inr cc
+written-refusal (Err unwritten.NoRoom) k e = inl cc
 
 -- Writing a graph refuses by no number other than 8 and 11.
-pub other-refusal : (w : Written) (k : ℕ) → refusal (reply_of w) ≡ some k → (k ≡ 8 → ⊥) → (k ≡ 11 → ⊥) → ⊥
+pub other-refusal : (w : Writing) (k : ℕ) → refusal (reply_of w) ≡ some k → (k ≡ 8 → ⊥) → (k ≡ 11 → ⊥) → ⊥
 other-refusal w k e not-room not-large = ⊎_elim not-room not-large (written-refusal w k e)
 
 module _ (out : List ℕ) where

@@ -31,7 +31,7 @@ use Rattle.record.specs.Read.{reading, accepted, graph_of_rows}
 use Rattle.record.proofs.Accepted.{Rules, accepted-rules}
 use Rattle.record.proofs.Theorems.{accepted-of-any-size, accepted-fits, written-accepted}
 use Rattle.link_orders.specs.LinkOrders.{is_reading_order}
-use Rattle.replies.specs.declared.Reply.TheVariants as replies
+use Rattle.replies.specs.Replies as replies
 use Rattle.replies.specs.Reply.{Result, refusal, refusing, result_of}
 use Rattle.calls.specs.Calls.{unifying, differing, differing_by}
 use Rattle.difference.specs.Difference.{all_wanted, numbered, difference_rows, differed, differed_rows}

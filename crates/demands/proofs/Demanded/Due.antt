@@ -15,14 +15,14 @@ use Rattle.graphs.proofs.Lists.{tells-eqb}
 use Rattle.lattice.specs.Label.{Label}
 use Rattle.lattice.specs.Labels.{OfAnySize}
 use Rattle.lattice.proofs.AnySize.{combination-greatest}
-use Rattle.acceptance.specs.declared.Opened.TheVariants.{Accepted}
+use Rattle.std.specs.Prelude.{Ok}
 use Rattle.acceptance.specs.Reply.{opened}
 use Rattle.acceptance.proofs.Acceptance.{opened-accepted}
 use Rattle.record.specs.Read.{reading, accepted, graph_of_rows}
 use Rattle.record.proofs.Theorems.{accepted-of-any-size, accepted-fits}
 use Rattle.generalize.proofs.Sides.{tells-pair}
-use Rattle.replies.specs.declared.Reply.{Reply}
-use Rattle.replies.specs.declared.Reply.TheVariants as replies
+use Rattle.replies.specs.Replies.{Reply}
+use Rattle.replies.specs.Replies as replies
 use Rattle.replies.specs.Reply.{Result}
 use Rattle.subsume.specs.Promise.{rows_below}
 use Rattle.orders.specs.Ordering.{compared, ordered}
@@ -46,7 +46,7 @@ use Rattle.demands.proofs.Demanded.DueWriting.{WriteDue, write-due, large-replie
 use Rattle.demands.proofs.Demanded.DueWriting as write
 
 -- Rewriting: an accepted record is not too large.
-module _ (n : ℕ) (t bytes : List ℕ) (rows : List (Row Label)) (opens : opened n t ≡ Accepted) (reads : reading n bytes ≡ accepted rows)
+module _ (n : ℕ) (t bytes : List ℕ) (rows : List (Row Label)) (opens : opened n t ≡ Ok tt) (reads : reading n bytes ≡ accepted rows)
     (out : List ℕ) where
   small : Large (graph_of_rows rows) → ⊥
   small large =

@@ -7,13 +7,13 @@ use Prim.Native.Nat.{ℕ, ◌*◌, ◌≤◌}
 use borrow.Author.Tests.{leb-true, leb-false, le-leb, lt-leb}
 use lib.Dec.{leb}
 use lib.ListN.{length, drop}
+use Rattle.std.specs.Prelude.{Ok, Err}
 use Rattle.lattice.proofs.Laws.{accepted-size}
-use Rattle.acceptance.specs.declared.Opened.TheVariants.{Accepted}
 use Rattle.acceptance.specs.Reply.{opened}
 use Rattle.acceptance.proofs.Acceptance.{opened-accepted}
-use Rattle.encode.specs.declared.Written.TheVariants as outcome
+use Rattle.encode.specs.declared.Unwritten.TheVariants as unwritten
 use Rattle.encode.specs.Encode.{fitted, yielding}
-use Rattle.replies.specs.declared.Reply.{Reply}
+use Rattle.replies.specs.Replies.{Reply}
 use Rattle.replies.specs.Reply.{Result, result_of}
 use Rattle.listed.proofs.Theorems as Lists
 use Rattle.listing.specs.Call.{stepping}
@@ -22,12 +22,12 @@ use Rattle.demands.specs.Due.{Stepping, StepDue}
 use Rattle.demands.specs.Due as due
 
 module _ (n : ℕ) (t : List ℕ) (F : ℕ) (bytes out : List ℕ) where
-  size : opened n t ≡ Accepted → (2 ≤ n) × (n ≤ 64) × (length t ≡ 8 * n)
-  size opens = accepted-size n t (opened-accepted n t Accepted (sym opens) refl)
+  size : opened n t ≡ Ok tt → (2 ≤ n) × (n ≤ 64) × (length t ≡ 8 * n)
+  size opens = accepted-size n t (opened-accepted n t (Ok tt) (sym opens) refl)
 
   -- the record of new bytes, by whether it fits
   abbrev fitted_by : List ℕ → Bool → Result
-  fitted_by new b = result_of (cond b (yielding (outcome.Length (length new)) (new ++ drop (length new) out)) (yielding outcome.NoRoom out))
+  fitted_by new b = result_of (cond b (yielding (Ok (length new)) (new ++ drop (length new) out)) (yielding (Err unwritten.NoRoom) out))
 
   step-due : StepDue n t F bytes (length out) (stepping n t F bytes out).reply
   unfolding fitted

@@ -16,12 +16,11 @@ use Rattle.graphs.proofs.Lists.{tells-eqb}
 use Rattle.graphs.proofs.Form.Invariant.{same-canonical}
 use Rattle.lattice.specs.Label.{Label}
 use Rattle.lattice.specs.Labels.{table_labels}
-use Rattle.acceptance.specs.declared.Opened.{Opened}
-use Rattle.acceptance.specs.declared.Opened.TheVariants.{Accepted, Refused}
-use Rattle.acceptance.specs.Reply.{opened}
+use Rattle.std.specs.Prelude.{Ok, Err}
+use Rattle.acceptance.specs.Reply.{opened, TableAnswer}
 use Rattle.record.specs.Read.{Reading, refused, accepted, reading, graph_of_rows}
-use Rattle.replies.specs.declared.Reply.{Reply}
-use Rattle.replies.specs.declared.Reply.TheVariants as replies
+use Rattle.replies.specs.Replies.{Reply}
+use Rattle.replies.specs.Replies as replies
 use Rattle.replies.specs.Reply.{Result, refusing, length_of}
 use Rattle.link_orders.specs.LinkOrders.{is_reading_order}
 use Rattle.pairs.specs.Pair.{read_both}
@@ -48,10 +47,10 @@ module _ (reasons out old : List ℕ) where
     read-beside (accepted g) (refused fault) = refl
     read-beside (accepted g) (accepted s) = refl
 
-  table_beside : (o : Opened) (next : Result) →
+  table_beside : (o : TableAnswer) (next : Result) →
       with_reasons (checked (λ r. refusing r out) o next) reasons out old ≡ checked refusing_both o (with_reasons next reasons out old)
-  table_beside (Refused fault) next = refl
-  table_beside Accepted next = refl
+  table_beside (Err fault) next = refl
+  table_beside (Ok tt) next = refl
 
   list-beside : (l : Bool) (next : Result) →
       with_reasons (cond l next (refusing replies.ReadingOrder out)) reasons out old ≡

@@ -7,26 +7,26 @@ use Prim.Native.Nat.{ℕ}
 use borrow.Author.Tests.{leb-true, leb-false, le-leb, lt-leb}
 use lib.Dec.{leb, eqb}
 use lib.ListN.{length, drop}
+use Rattle.std.specs.Prelude.{Ok, Err}
 use Rattle.graphs.specs.Graph.{Graph, TellsApart}
 use Rattle.graphs.proofs.Below.{same-sym}
 use Rattle.graphs.proofs.Lists.{tells-eqb}
 use Rattle.lattice.specs.Label.{Label}
 use Rattle.lattice.specs.Labels.{OfAnySize}
-use Rattle.acceptance.specs.declared.Opened.TheVariants.{Accepted}
 use Rattle.acceptance.specs.Reply.{opened}
-use Rattle.encode.specs.declared.Written.TheVariants as outcome
+use Rattle.encode.specs.declared.Unwritten.TheVariants as unwritten
 use Rattle.encode.specs.Encode.{fitted, yielding}
 use Rattle.record.specs.Read.{graph_of_rows}
 use Rattle.record.proofs.Theorems.{accepted-of-any-size}
-use Rattle.replies.specs.declared.Reply.{Reply}
-use Rattle.replies.specs.declared.Reply.TheVariants.{TooLarge}
+use Rattle.replies.specs.Replies.{Reply}
+use Rattle.replies.specs.Replies.{TooLarge}
 use Rattle.replies.specs.Reply.{Result, result_of}
 use Rattle.demands.specs.Demand.{WrittenRecord, RecordOf, Large, form_bytes, record_of, writing}
 use Rattle.demands.specs.Due.{RoomDue}
 use Rattle.demands.specs.Due as due
 use Rattle.demands.proofs.Demanded.Recorded.{record-none, record-means, record-exact}
 
-module _ (n : ℕ) (t : List ℕ) (opens : opened n t ≡ Accepted) {C : Type 0} (same : C → C → Bool) (tells : TellsApart same) (k : Graph Label C)
+module _ (n : ℕ) (t : List ℕ) (opens : opened n t ≡ Ok tt) {C : Type 0} (same : C → C → Bool) (tells : TellsApart same) (k : Graph Label C)
     (size : OfAnySize n t k) where
   -- A graph has one record.
   pub record_is : (new : List ℕ) → RecordOf n t k new → record_of same k ≡ some new
@@ -42,7 +42,7 @@ module _ (n : ℕ) (t : List ℕ) (opens : opened n t ≡ Accepted) {C : Type 0}
 
     -- the record of new bytes, by whether it fits
     abbrev fitted_by : List ℕ → Bool → Result
-    fitted_by new b = result_of (cond b (yielding (outcome.Length (length new)) (new ++ drop (length new) out)) (yielding outcome.NoRoom out))
+    fitted_by new b = result_of (cond b (yielding (Ok (length new)) (new ++ drop (length new) out)) (yielding (Err unwritten.NoRoom) out))
 
     pub large-replies : Large k → call.reply ≡ TooLarge
     large-replies large = ap (λ (o : Option (List ℕ)). (writing o out).reply) ((record-none n t opens same tells k size).1 large)

@@ -16,8 +16,8 @@ use Rattle.graphs.specs.Unify.{Unified, cycle, clash, unified, unification}
 use Rattle.graphs.specs.OfRows.{same_pair, same_either}
 use Rattle.graphs.proofs.Search.{true-false}
 use Rattle.lattice.specs.Label.{Label}
-use Rattle.acceptance.specs.declared.Opened.{Opened}
-use Rattle.acceptance.specs.declared.Opened.TheVariants as opened
+use Rattle.acceptance.specs.Reply.{TableAnswer}
+use Rattle.std.specs.Prelude.{Ok, Err}
 use Rattle.lattice.specs.Labels.{table_labels}
 use Rattle.acceptance.specs.Reply as table
 use Rattle.encode.specs.Encode.{written_out}
@@ -31,8 +31,8 @@ use Rattle.record.proofs.Allowed.{refused-appropriate, judged-appropriate}
 use Rattle.record.proofs.Obeying.{appropriate-exact}
 use Rattle.replies.specs.declared.Side.{Side}
 use Rattle.replies.specs.declared.Side.TheVariants.{First, Second}
-use Rattle.replies.specs.declared.Reply.{Reply}
-use Rattle.replies.specs.declared.Reply.TheVariants.{Graph, Table, TypeList}
+use Rattle.replies.specs.Replies.{Reply}
+use Rattle.replies.specs.Replies.{Graph, Table, TypeList}
 use Rattle.replies.specs.Reply.{Result, refusal, refusing}
 use Rattle.calls.specs.Calls.{rewriting, generalizing, unifying}
 use Rattle.calls.specs.Appropriate.{rewriting_appropriate, generalizing_appropriate, unifying_appropriate}
@@ -121,40 +121,40 @@ both-comes n t list a b out next =
 
 -- What a call with a list leaves in the output.
 module _ {n : ℕ} {t : List ℕ} {listed : Bool} {out : List ℕ} {call next : Result} (checks : Checks n t listed TypeList out call next) where
-  call-leaves : {plain : Result} → Comes out plain next → (table.opened n t ≡ opened.Accepted → Leaves n out plain) → Leaves n out call
+  call-leaves : {plain : Result} → Comes out plain next → (table.opened n t ≡ Ok tt → Leaves n out plain) → Leaves n out call
   call-leaves {plain} comes leaves = go (table.opened n t) refl
     where
-      after : table.opened n t ≡ opened.Accepted → {r : Result} → Comes out plain r → Leaves n out r
+      after : table.opened n t ≡ Ok tt → {r : Result} → Comes out plain r → Leaves n out r
       after opens (refuses fault side) = refusing-leaves n out (Graph fault side) (graph_number fault) refl
       after opens plainly = leaves opens
 
-      list-tested : table.opened n t ≡ opened.Accepted → (b : Bool) → listed ≡ b → Leaves n out call
+      list-tested : table.opened n t ≡ Ok tt → (b : Bool) → listed ≡ b → Leaves n out call
       list-tested opens true e = subst (Leaves n out) (list-passed checks opens e) (after opens comes)
       list-tested opens false e = subst (Leaves n out) (list-refused checks opens e) (refusing-leaves n out TypeList 17 refl)
 
-      go : (o : Opened) → table.opened n t ≡ o → Leaves n out call
-      go (opened.Refused fault) e =
+      go : (o : TableAnswer) → table.opened n t ≡ o → Leaves n out call
+      go (Err fault) e =
           subst (Leaves n out) (table-before-list checks fault e) (refusing-leaves n out (Table fault) (table.table_number fault) refl)
-      go opened.Accepted e = list-tested e listed refl
+      go (Ok tt) e = list-tested e listed refl
 
   -- 18 comes from what follows the list, over an accepted table and an accepted list.
   call-forbids : (side : Side) → call.reply ≡ Graph Inappropriate side →
-      (table.opened n t ≡ opened.Accepted) × (listed ≡ true) × (next.reply ≡ Graph Inappropriate side)
+      (table.opened n t ≡ Ok tt) × (listed ≡ true) × (next.reply ≡ Graph Inappropriate side)
   call-forbids side q = go (table.opened n t) refl
     where
-      list-tested : table.opened n t ≡ opened.Accepted → (b : Bool) → listed ≡ b →
-          (table.opened n t ≡ opened.Accepted) × (listed ≡ true) × (next.reply ≡ Graph Inappropriate side)
+      list-tested : table.opened n t ≡ Ok tt → (b : Bool) → listed ≡ b →
+          (table.opened n t ≡ Ok tt) × (listed ≡ true) × (next.reply ≡ Graph Inappropriate side)
       list-tested opens true e = (opens, e, ap (λ (r : Result). r.reply) (list-passed checks opens e) ∙ q)
       list-tested opens false e =
           let h = ap (λ (r : Result). r.reply) (list-refused checks opens e) ∙ q in
           let z : ◌≡◌ {A = ℕ} 0 1 = cc in absurd (omega arith)
 
-      go : (o : Opened) → table.opened n t ≡ o →
-          (table.opened n t ≡ opened.Accepted) × (listed ≡ true) × (next.reply ≡ Graph Inappropriate side)
-      go (opened.Refused fault) e =
+      go : (o : TableAnswer) → table.opened n t ≡ o →
+          (table.opened n t ≡ Ok tt) × (listed ≡ true) × (next.reply ≡ Graph Inappropriate side)
+      go (Err fault) e =
           let h = ap (λ (r : Result). r.reply) (table-before-list checks fault e) ∙ q in
           let z : ◌≡◌ {A = ℕ} 0 1 = cc in absurd (omega arith)
-      go opened.Accepted e = list-tested e listed refl
+      go (Ok tt) e = list-tested e listed refl
 
 -- The operations themselves never answer 18.
 module _ (out : List ℕ) where
@@ -249,7 +249,7 @@ module _ (n : ℕ) (t list out : List ℕ) where
 
   -- 18 is given exactly where it is due.
   pub rewriting-forbids : (a : List ℕ) → ((rewriting_appropriate n t list a out).reply ≡ Graph Inappropriate First) ↔
-      ((table.opened n t ≡ opened.Accepted) × (list_accepted n list ≡ true) × Breaks n t list a)
+      ((table.opened n t ≡ Ok tt) × (list_accepted n list ≡ true) × Breaks n t list a)
   rewriting-forbids a = (
     λ q. let (opens, listed, e) = call-forbids (rewriting-checked n t list out a) First q in (opens, listed, lone-breaks out n t list a e),
     λ (opens, listed, bad). ap (λ (r : Result). r.reply) (Listing.rewriting-breaks n t list opens listed a out bad),
@@ -257,7 +257,7 @@ module _ (n : ℕ) (t list out : List ℕ) where
 
   module _ (a b : List ℕ) where
     pub generalizing-forbids-first : ((generalizing_appropriate n t list a b out).reply ≡ Graph Inappropriate First) ↔
-        ((table.opened n t ≡ opened.Accepted) × (list_accepted n list ≡ true) × Breaks n t list a)
+        ((table.opened n t ≡ Ok tt) × (list_accepted n list ≡ true) × Breaks n t list a)
     generalizing-forbids-first = (
       λ q.
           let (opens, listed, e) = call-forbids (generalizing-checked n t list out a b) First q in
@@ -266,7 +266,7 @@ module _ (n : ℕ) (t list out : List ℕ) where
     )
 
     pub generalizing-forbids-second : ((generalizing_appropriate n t list a b out).reply ≡ Graph Inappropriate Second) ↔
-        ((table.opened n t ≡ opened.Accepted) × (list_accepted n list ≡ true) × Fits n t list a × Breaks n t list b)
+        ((table.opened n t ≡ Ok tt) × (list_accepted n list ≡ true) × Fits n t list a × Breaks n t list b)
     generalizing-forbids-second = (
       λ q.
           let (opens, listed, e) = call-forbids (generalizing-checked n t list out a b) Second q in
@@ -276,7 +276,7 @@ module _ (n : ℕ) (t list out : List ℕ) where
     )
 
     pub unifying-forbids-first : ((unifying_appropriate n t list a b out).reply ≡ Graph Inappropriate First) ↔
-        ((table.opened n t ≡ opened.Accepted) × (list_accepted n list ≡ true) × Breaks n t list a)
+        ((table.opened n t ≡ Ok tt) × (list_accepted n list ≡ true) × Breaks n t list a)
     unifying-forbids-first = (
       λ q.
           let (opens, listed, e) = call-forbids (unifying-checked n t list out a b) First q in
@@ -285,7 +285,7 @@ module _ (n : ℕ) (t list out : List ℕ) where
     )
 
     pub unifying-forbids-second : ((unifying_appropriate n t list a b out).reply ≡ Graph Inappropriate Second) ↔
-        ((table.opened n t ≡ opened.Accepted) × (list_accepted n list ≡ true) × Fits n t list a × Breaks n t list b)
+        ((table.opened n t ≡ Ok tt) × (list_accepted n list ≡ true) × Fits n t list a × Breaks n t list b)
     unifying-forbids-second = (
       λ q.
           let (opens, listed, e) = call-forbids (unifying-checked n t list out a b) Second q in

@@ -11,7 +11,7 @@ use Rattle.graphs.specs.Graph.{Graph, SameMeaning}
 use Rattle.graphs.specs.Rows.{Row}
 use Rattle.graphs.specs.Number.{canonical, written}
 use Rattle.lattice.specs.Label.{Label}
-use Rattle.acceptance.specs.declared.Opened.TheVariants.{Accepted}
+use Rattle.std.specs.Prelude.{Ok}
 use Rattle.acceptance.specs.Reply.{opened}
 use Rattle.lattice.specs.Labels.{table_labels}
 use Rattle.encoder.specs.Encode.{encoded}
@@ -19,7 +19,7 @@ use Rattle.record.specs.Read.{reading, accepted, graph_of_rows}
 use Rattle.record.proofs.Rewritten.{rules-read}
 use Rattle.rows.specs.declared.Row as lent
 use Rattle.rows.specs.Rows.{table_rows}
-use Rattle.replies.specs.declared.Reply.TheVariants.{Length, NoRoom}
+use Rattle.replies.specs.Replies.{Length, NoRoom}
 use Rattle.replies.specs.Reply.{Result}
 use Rattle.engine.proofs.Tables.{few-types}
 use Rattle.calls.specs.Calls.{rewriting}
@@ -64,7 +64,7 @@ module _ (k : Graph Label ℕ) (P : ℕ → Type 0) where
 -- 8 and a length are each answered exactly where they are due.
 module _ (n : ℕ) (t nodes : List ℕ) (rows : List lent.Row) (out : List ℕ) where
   pub room-exact : ((importing_rows n t rows nodes out).reply ≡ NoRoom) ↔
-      ((opened n t ≡ Accepted) × Importable n nodes rows × ((bytes : List ℕ) × (record_of eqb (table_graph nodes rows) ≡ some bytes) × (length out < length bytes)))
+      ((opened n t ≡ Ok tt) × Importable n nodes rows × ((bytes : List ℕ) × (record_of eqb (table_graph nodes rows) ≡ some bytes) × (length out < length bytes)))
   room-exact =
       let (there, back) = due.room-exact n t rows nodes out in (
         λ q. let (opens, importable, found) = there q in (opens, importable, form-record (table_graph nodes rows) (λ m. length out < m) found),
@@ -72,7 +72,7 @@ module _ (n : ℕ) (t nodes : List ℕ) (rows : List lent.Row) (out : List ℕ) 
       )
 
   pub length-exact : (l : ℕ) → ((importing_rows n t rows nodes out).reply ≡ Length l) ↔
-      ((opened n t ≡ Accepted) × Importable n nodes rows ×
+      ((opened n t ≡ Ok tt) × Importable n nodes rows ×
       ((bytes : List ℕ) × (record_of eqb (table_graph nodes rows) ≡ some bytes) × ((length bytes ≡ l) × (length bytes ≤ length out))))
   length-exact l =
       let (there, back) = due.length-exact n t rows nodes out l in (

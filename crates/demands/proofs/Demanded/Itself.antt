@@ -25,7 +25,7 @@ use Rattle.graphs.proofs.Order.{subsumes-exact}
 use Rattle.graphs.proofs.Form.Large.{canonical-fits}
 use Rattle.graphs.proofs.Form.Canonical.{canonical-exact}
 use Rattle.lattice.specs.Label.{Label, plain}
-use Rattle.acceptance.specs.declared.Opened.TheVariants.{Accepted}
+use Rattle.std.specs.Prelude.{Ok}
 use Rattle.lattice.specs.Table as table
 use Rattle.acceptance.specs.Reply.{opened}
 use Rattle.lattice.specs.Labels.{type_labels, table_labels, Known, OfAnySize}
@@ -158,7 +158,7 @@ module _ (n : ℕ) (t : List ℕ) (ok : table.accepted n t ≡ true) where
         greatest = λ e l _. top-greatest n t ok e l;
       })
 
-module _ (n : ℕ) (t a : List ℕ) (s : List (Row Label)) (opens : opened n t ≡ Accepted) (reads : reading n a ≡ accepted s) where
+module _ (n : ℕ) (t a : List ℕ) (s : List (Row Label)) (opens : opened n t ≡ Ok tt) (reads : reading n a ≡ accepted s) where
   given : Given n t a a s s
   given = record { opens = opens; first = reads; second = reads }
 

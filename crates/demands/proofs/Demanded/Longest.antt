@@ -21,7 +21,7 @@ use Rattle.graphs.proofs.Lists.{from-range, length_from, get_or-from}
 use Rattle.lattice.specs.Label.{Label, no_label}
 use Rattle.lattice.specs.Labels.{Known}
 use Rattle.lattice.specs.Table.{every, last, below, sized, confined, reflexive, antisymmetric, transitive, least, greatest, ordered, is_meet, is_join, meet, join, bounded}
-use Rattle.acceptance.specs.declared.Opened.TheVariants.{Accepted}
+use Rattle.std.specs.Prelude.{Ok}
 use Rattle.acceptance.specs.Reply.{opened}
 use Rattle.encoder.specs.Encode.{is_full, encoded_label, encoded_row, encoded_rows, encoded}
 use Rattle.encode.specs.Encode.{fitted}
@@ -29,7 +29,7 @@ use Rattle.record.specs.Read.{graph_of_rows}
 use Rattle.record.proofs.Accepted.{Rules}
 use Rattle.record.proofs.Rewritten.{rules-read}
 use Rattle.record.proofs.Nodes.{target-source}
-use Rattle.replies.specs.declared.Reply.TheVariants.{Length}
+use Rattle.replies.specs.Replies.{Length}
 use Rattle.replies.specs.Reply.{Result, result_of}
 use Rattle.calls.specs.Calls.{rewriting}
 use Rattle.demands.specs.Demand.{WrittenRecord}
@@ -53,7 +53,7 @@ rows = map row_at (from 0 255)
 table : List ℕ
 table = 1 ∷ replicate 7 0 ++ 3 ∷ replicate 7 0
 
-opens : opened 2 table ≡ Accepted
+opens : opened 2 table ≡ Ok tt
 unfolding table opened sized ordered confined reflexive antisymmetric transitive least greatest bounded meet is_meet join is_join every last below
 opens = refl
 

@@ -15,7 +15,7 @@ use Rattle.graphs.proofs.Lists.{tells-eqb}
 use Rattle.graphs.proofs.Below.{same-sym}
 use Rattle.graphs.proofs.Form.Invariant.{same-canonical}
 use Rattle.lattice.specs.Label.{Label}
-use Rattle.acceptance.specs.declared.Opened.TheVariants.{Accepted}
+use Rattle.std.specs.Prelude.{Ok}
 use Rattle.acceptance.specs.Reply.{opened}
 use Rattle.lattice.specs.Labels.{table_labels}
 use Rattle.acceptance.proofs.Acceptance.{opened-accepted}
@@ -26,7 +26,7 @@ use Rattle.record.specs.Read.{reading, accepted, graph_of_rows}
 use Rattle.record.proofs.Rewritten.{form-again}
 use Rattle.record.proofs.Theorems.{accepted-of-any-size, accepted-fits, accepted-types}
 use Rattle.record.proofs.Theorems as record-theorems
-use Rattle.replies.specs.declared.Reply.TheVariants.{Length, Same}
+use Rattle.replies.specs.Replies.{Length, Same}
 use Rattle.replies.specs.Reply.{Result, result_of}
 use Rattle.calls.specs.Calls.{ordering, rewriting}
 use Rattle.demands.specs.Demand.{Given, WrittenRecord, Rewritten}
@@ -34,7 +34,7 @@ use Rattle.demands.proofs.Results.{Writes, rewriting-is, result-writes}
 use Rattle.demands.proofs.Demanded.Order.{same-exact}
 use Rattle.demands.proofs.Demanded.Output.{rewriting-small}
 
-module _ (n : ℕ) (t a : List ℕ) (rows : List (Row Label)) (opens : opened n t ≡ Accepted) (reads : reading n a ≡ accepted rows) (out : List ℕ) where
+module _ (n : ℕ) (t a : List ℕ) (rows : List (Row Label)) (opens : opened n t ≡ Ok tt) (reads : reading n a ≡ accepted rows) (out : List ℕ) where
   -- Rewriting refuses an accepted record by 8 alone, exactly where 8 is due.
   pub rewriting-writes : Writes n t eqb (graph_of_rows rows) out (rewriting n t a out)
   rewriting-writes =
@@ -90,7 +90,7 @@ module _ (n : ℕ) (t a b : List ℕ) (s g : List (Row Label)) (given : Given n 
       (λ e. back ((same-exact n t a b s g given).0 e), λ m. (same-exact n t a b s g given).1 (there m))
 
 -- What rewriting writes.
-module _ (n : ℕ) (t a : List ℕ) (rows : List (Row Label)) (opens : opened n t ≡ Accepted) (reads : reading n a ≡ accepted rows) (out : List ℕ) where
+module _ (n : ℕ) (t a : List ℕ) (rows : List (Row Label)) (opens : opened n t ≡ Ok tt) (reads : reading n a ≡ accepted rows) (out : List ℕ) where
   pub written-again : (l : ℕ) → (rewriting n t a out).reply ≡ Length l → Rewritten n t a rows (take l (rewriting n t a out).output)
   written-again l q =
       let wrote = (rewriting-writes n t a rows opens reads out).wrote l q in
@@ -109,7 +109,7 @@ module _ (n : ℕ) (t a : List ℕ) (rows : List (Row Label)) (opens : opened n 
 -- Records in written form, whichever call wrote them.
 module _ (n : ℕ) (t a : List ℕ) (one : WrittenRecord n a) where
   -- Rewriting gives the record's own bytes, or 8 where the output is shorter.
-  pub own-bytes : opened n t ≡ Accepted → (out : List ℕ) → rewriting n t a out ≡ result_of (fitted a out)
+  pub own-bytes : opened n t ≡ Ok tt → (out : List ℕ) → rewriting n t a out ≡ result_of (fitted a out)
   unfolding written_out
   own-bytes opens out =
       rewriting-is n t a one.form opens one.reads out ∙

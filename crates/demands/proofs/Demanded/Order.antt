@@ -11,8 +11,8 @@ use Rattle.graphs.specs.Rows.{Row}
 use Rattle.graphs.proofs.Search.{true-false, not-true-false}
 use Rattle.graphs.proofs.Walk.{none-some}
 use Rattle.lattice.specs.Label.{Label}
-use Rattle.acceptance.specs.declared.Opened.{Opened}
-use Rattle.acceptance.specs.declared.Opened.TheVariants as opened
+use Rattle.acceptance.specs.Reply.{TableAnswer}
+use Rattle.std.specs.Prelude.{Ok, Err}
 use Rattle.acceptance.specs.Reply as table
 use Rattle.lattice.specs.Labels.{table_labels}
 use Rattle.record.specs.Read.{Reading, refused, accepted, reading, graph_of_rows}
@@ -21,8 +21,8 @@ use Rattle.record.proofs.Accepted.{accepted-rules}
 use Rattle.replies.specs.declared.Side.TheVariants.{First, Second}
 use Rattle.replies.specs.declared.answers.Answer.{Answer}
 use Rattle.replies.specs.declared.answers.Answer.TheVariants as answer
-use Rattle.replies.specs.declared.Reply.{Reply}
-use Rattle.replies.specs.declared.Reply.TheVariants.{Same, Under, Above, Neither, Table, Graph}
+use Rattle.replies.specs.Replies.{Reply}
+use Rattle.replies.specs.Replies.{Same, Under, Above, Neither, Table, Graph}
 use Rattle.replies.specs.Reply.{answer_of}
 use Rattle.subsume.specs.Promise.{rows_below}
 use Rattle.calls.specs.Calls.{checked, ordering}
@@ -146,13 +146,13 @@ answer-given : (n : ℕ) (t a b : List ℕ) (x y : Bool) → ordering n t a b �
 unfolding ordering told_in
 answer-given n t a b x y e = go (table.opened n t) (reading n a) (reading n b) refl refl refl e
   where
-    go : (o : Opened) (v w : Reading) → table.opened n t ≡ o → reading n a ≡ v → reading n b ≡ w →
+    go : (o : TableAnswer) (v w : Reading) → table.opened n t ≡ o → reading n a ≡ v → reading n b ≡ w →
         checked (λ r. r) o (read_both (λ r. r) v w (ordered n t)) ≡ compared x y →
         (s : List (Row Label)) × (g : List (Row Label)) × Given n t a b s g
-    go (opened.Refused fault) v w i j k e = absurd (refusal-told (Table fault) x y refl e)
-    go opened.Accepted (refused fault) w i j k e = absurd (refusal-told (Graph fault First) x y refl e)
-    go opened.Accepted (accepted s) (refused fault) i j k e = absurd (refusal-told (Graph fault Second) x y refl e)
-    go opened.Accepted (accepted s) (accepted g) i j k e = (s, g, record { opens = i; first = j; second = k })
+    go (Err fault) v w i j k e = absurd (refusal-told (Table fault) x y refl e)
+    go (Ok tt) (refused fault) w i j k e = absurd (refusal-told (Graph fault First) x y refl e)
+    go (Ok tt) (accepted s) (refused fault) i j k e = absurd (refusal-told (Graph fault Second) x y refl e)
+    go (Ok tt) (accepted s) (accepted g) i j k e = (s, g, record { opens = i; first = j; second = k })
 
 module _ (n : ℕ) (t a b : List ℕ) where
   pub below-given : AnswersBelow n t a b → (s : List (Row Label)) × (g : List (Row Label)) × Given n t a b s g
@@ -172,18 +172,18 @@ module _ (n : ℕ) (t a b : List ℕ) where
   unfolding ordering ordered told_in
   refusal-turned s e fault = rw e (go (table.opened n t) (reading n b))
     where
-      go : (o : Opened) (w : Reading) →
+      go : (o : TableAnswer) (w : Reading) →
           (checked (λ r. r) o (read_both (λ r. r) (accepted s) w (ordered n t)) ≡ Graph fault Second) ↔
           (checked (λ r. r) o (read_both (λ r. r) w (accepted s) (ordered n t)) ≡ Graph fault First)
-      go (opened.Refused other) w = (
+      go (Err other) w = (
         λ q. let z : ◌≡◌ {A = ℕ} 0 1 = cc in absurd (omega arith),
         λ q. let z : ◌≡◌ {A = ℕ} 0 1 = cc in absurd (omega arith),
       )
-      go opened.Accepted (refused other) = (
+      go (Ok tt) (refused other) = (
         λ q. let same : other ≡ fault = cc in ap (λ f. Graph f First) same,
         λ q. let same : other ≡ fault = cc in ap (λ f. Graph f Second) same,
       )
-      go opened.Accepted (accepted g) = (
+      go (Ok tt) (accepted g) = (
         λ q. absurd (refusal-told (Graph fault Second) (rows_below n t s g) (rows_below n t g s) refl (sym q)),
         λ q. absurd (refusal-told (Graph fault First) (rows_below n t g s) (rows_below n t s g) refl (sym q)),
       )

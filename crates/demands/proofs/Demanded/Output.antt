@@ -18,8 +18,8 @@ use Rattle.graphs.proofs.Difference.ByNumber.{by-number-order}
 use Rattle.graphs.proofs.Difference.ByReading.{by-reading-order}
 use Rattle.lattice.specs.Label.{Label}
 use Rattle.acceptance.specs.declared.TableFault.{TableFault}
-use Rattle.acceptance.specs.declared.Opened.{Opened}
-use Rattle.acceptance.specs.declared.Opened.TheVariants as opened
+use Rattle.acceptance.specs.Reply.{TableAnswer}
+use Rattle.std.specs.Prelude.{Ok, Err}
 use Rattle.lattice.specs.Table as types
 use Rattle.acceptance.specs.Reply as table
 use Rattle.acceptance.proofs.Acceptance.{opened-accepted}
@@ -36,8 +36,8 @@ use Rattle.link_orders.specs.LinkOrders.{is_reading_order}
 use Rattle.generalize.proofs.Sides.{tells-pair}
 use Rattle.replies.specs.declared.Side.{Side}
 use Rattle.replies.specs.declared.Side.TheVariants.{First, Second}
-use Rattle.replies.specs.declared.Reply.{Reply}
-use Rattle.replies.specs.declared.Reply.TheVariants as replies
+use Rattle.replies.specs.Replies.{Reply}
+use Rattle.replies.specs.Replies as replies
 use Rattle.replies.specs.Reply.{Result, refusal, refusing}
 use Rattle.calls.specs.Calls.{checked, checked_list, rewriting, generalizing, unifying, differing, differing_by}
 use Rattle.pairs.specs.Pair.{read_both}
@@ -121,24 +121,24 @@ module _ (n : ℕ) (out : List ℕ) where
         read (refused fault) e = graph-refused fault First
         read (accepted rows) e = next rows e
 
-        go : (o : Opened) → P (checked (λ r. refusing r out) o (rewritten (reading n bytes) out))
-        go (opened.Refused fault) = table-refused fault
-        go opened.Accepted = read (reading n bytes) refl
+        go : (o : TableAnswer) → P (checked (λ r. refusing r out) o (rewritten (reading n bytes) out))
+        go (Err fault) = table-refused fault
+        go (Ok tt) = read (reading n bytes) refl
 
     pub of_two : (a b : List ℕ) (next : List (Row Label) → List (Row Label) → Result) → ((g h : List (Row Label)) → Given n t a b g h → P (next g h)) →
         P (checked (λ r. refusing r out) (table.opened n t) (read_both (λ r. refusing r out) (reading n a) (reading n b) next))
     of_two a b next holds = go (table.opened n t) refl
       where
-        read : table.opened n t ≡ opened.Accepted → (o i : Reading) → reading n a ≡ o → reading n b ≡ i →
+        read : table.opened n t ≡ Ok tt → (o i : Reading) → reading n a ≡ o → reading n b ≡ i →
             P (read_both (λ r. refusing r out) o i next)
         read e (refused fault) i x y = graph-refused fault First
         read e (accepted g) (refused fault) x y = graph-refused fault Second
         read e (accepted g) (accepted h) x y = holds g h (record { opens = e; first = x; second = y })
 
-        go : (o : Opened) → table.opened n t ≡ o →
+        go : (o : TableAnswer) → table.opened n t ≡ o →
             P (checked (λ r. refusing r out) o (read_both (λ r. refusing r out) (reading n a) (reading n b) next))
-        go (opened.Refused fault) e = table-refused fault
-        go opened.Accepted e = read e (reading n a) (reading n b) refl refl
+        go (Err fault) e = table-refused fault
+        go (Ok tt) e = read e (reading n a) (reading n b) refl refl
 
     -- For a call with a list, the property must also hold for the refusal of the list.
     pub of-two-listed : (listed : Bool) (wrong : Reply) → P (refusing wrong out) → (a b : List ℕ)
@@ -147,9 +147,9 @@ module _ (n : ℕ) (out : List ℕ) where
     of-two-listed true wrong refuses a b next holds = of_two a b next holds
     of-two-listed false wrong refuses a b next holds = go (table.opened n t)
       where
-        go : (o : Opened) → P (checked (λ r. refusing r out) o (refusing wrong out))
-        go (opened.Refused fault) = table-refused fault
-        go opened.Accepted = refuses
+        go : (o : TableAnswer) → P (checked (λ r. refusing r out) o (refusing wrong out))
+        go (Err fault) = table-refused fault
+        go (Ok tt) = refuses
 
 -- What a call goes on with, for accepted records over an accepted table.
 module _ (n : ℕ) (t a b : List ℕ) {g h : List (Row Label)} (given : Given n t a b g h) (out : List ℕ) where

@@ -28,8 +28,8 @@ use Rattle.lattice.specs.Label.{Label, no_label}
 use Rattle.lattice.specs.Labels.{table_labels}
 use Rattle.lattice.specs.Table as types
 use Rattle.acceptance.specs.declared.TableFault.{TableFault}
-use Rattle.acceptance.specs.declared.Opened.{Opened}
-use Rattle.acceptance.specs.declared.Opened.TheVariants as opened
+use Rattle.acceptance.specs.Reply.{TableAnswer}
+use Rattle.std.specs.Prelude.{Ok, Err}
 use Rattle.acceptance.specs.Reply as table
 use Rattle.encode.specs.Encode.{Outcome, written_out}
 use Rattle.record.specs.declared.GraphFault.{GraphFault}
@@ -38,8 +38,8 @@ use Rattle.record.specs.Read.{Reading, refused, accepted, reading, graph_of_rows
 use Rattle.record.proofs.Accepted.{Rules}
 use Rattle.link_orders.specs.LinkOrders.{is_reading_order}
 use Rattle.difference.specs.Promise.{reasons_along}
-use Rattle.replies.specs.declared.Reply.{Reply}
-use Rattle.replies.specs.declared.Reply.TheVariants as replies
+use Rattle.replies.specs.Replies.{Reply}
+use Rattle.replies.specs.Replies as replies
 use Rattle.replies.specs.declared.answers.Answer.{Answer}
 use Rattle.replies.specs.declared.answers.Answer.TheVariants as answer
 use Rattle.replies.specs.Reply.{Result, answer_of, refusal, result_of, refusing, length_in, length_of}
@@ -323,17 +323,17 @@ pub differing-other : (n : ℕ) (t a b out : List ℕ) → (differing n t a b ou
 unfolding differing
 differing-other n t a b out e = go (table.opened n t) e
   where
-    go : (o : Opened) → (checked (λ r. refusing r out) o (parting by_number n t a b out)).reply ≡ replies.NoReasonRoom → ⊥
-    go (opened.Refused fault) q = table-low fault q
-    go opened.Accepted q = parting-low by_number n t out {k = 22} (omega arith) a b (ap refusal q)
+    go : (o : TableAnswer) → (checked (λ r. refusing r out) o (parting by_number n t a b out)).reply ≡ replies.NoReasonRoom → ⊥
+    go (Err fault) q = table-low fault q
+    go (Ok tt) q = parting-low by_number n t out {k = 22} (omega arith) a b (ap refusal q)
 
 pub differing-by-other : (n : ℕ) (t list a b out : List ℕ) → (differing_by n t list a b out).reply ≡ replies.NoReasonRoom → ⊥
 unfolding differing_by
 differing-by-other n t list a b out e = go (table.opened n t) (is_reading_order list) e
   where
-    go : (o : Opened) (listed : Bool) →
+    go : (o : TableAnswer) (listed : Bool) →
         (checked (λ r. refusing r out) o (cond listed (parting (by_reading list) n t a b out) (refusing replies.ReadingOrder out))).reply ≡
         replies.NoReasonRoom → ⊥
-    go (opened.Refused fault) listed q = table-low fault q
-    go opened.Accepted true q = parting-low (by_reading list) n t out {k = 22} (omega arith) a b (ap refusal q)
-    go opened.Accepted false q = let z : ◌≡◌ {A = ℕ} 0 1 = cc in omega arith
+    go (Err fault) listed q = table-low fault q
+    go (Ok tt) true q = parting-low (by_reading list) n t out {k = 22} (omega arith) a b (ap refusal q)
+    go (Ok tt) false q = let z : ◌≡◌ {A = ℕ} 0 1 = cc in omega arith

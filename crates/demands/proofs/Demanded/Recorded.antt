@@ -14,7 +14,7 @@ use Rattle.graphs.proofs.Below.{same-sym, same-trans}
 use Rattle.graphs.proofs.Form.Invariant.{same-canonical}
 use Rattle.graphs.proofs.Form.Large.{canonical-many-nodes, canonical-many-links, canonical-fits}
 use Rattle.lattice.specs.Label.{Label}
-use Rattle.acceptance.specs.declared.Opened.TheVariants.{Accepted}
+use Rattle.std.specs.Prelude.{Ok}
 use Rattle.acceptance.specs.Reply.{opened}
 use Rattle.lattice.specs.Labels.{table_labels, OfAnySize}
 use Rattle.acceptance.proofs.Acceptance.{opened-accepted}
@@ -25,7 +25,7 @@ use Rattle.record.proofs.Accepted.{accepted-injective}
 use Rattle.demands.specs.Demand.{Large, form_bytes, record_of, RecordOf}
 use Rattle.demands.proofs.Results.{record-form, seven-bits}
 
-module _ (n : ℕ) (t : List ℕ) (opens : opened n t ≡ Accepted) {C : Type 0} (same : C → C → Bool) (tells : TellsApart same) (k : Graph Label C)
+module _ (n : ℕ) (t : List ℕ) (opens : opened n t ≡ Ok tt) {C : Type 0} (same : C → C → Bool) (tells : TellsApart same) (k : Graph Label C)
     (size : OfAnySize n t k) where
   pub record-none : (record_of same k ≡ none) ↔ Large k
   record-none = (there (canonical same k) refl, back (canonical same k) refl)
@@ -58,7 +58,7 @@ module _ (n : ℕ) (t : List ℕ) (opens : opened n t ≡ Accepted) {C : Type 0}
         means = means;
       }
 
-pub record-exact : (n : ℕ) (t : List ℕ) → opened n t ≡ Accepted → {C : Type 0} (same : C → C → Bool) → TellsApart same → (k : Graph Label C) →
+pub record-exact : (n : ℕ) (t : List ℕ) → opened n t ≡ Ok tt → {C : Type 0} (same : C → C → Bool) → TellsApart same → (k : Graph Label C) →
     OfAnySize n t k → (bytes : List ℕ) → record_of same k ≡ some bytes → {D : Type 0} (other : D → D → Bool) → TellsApart other → (m : Graph Label D) →
     OfAnySize n t m → SameMeaning (table_labels n t) k m ↔ (record_of other m ≡ some bytes)
 record-exact n t opens same tells k size bytes is other tells-other m size-other = (

@@ -9,6 +9,7 @@ use borrow.Author.Tests.{le-leb}
 use lib.Dec.{eqb}
 use lib.ListN.{length, take, drop}
 use lib.Seq.{take-append_seam}
+use Rattle.std.specs.Prelude.{Ok, Err}
 use Rattle.graphs.specs.Graph.{Below}
 use Rattle.graphs.specs.Rows.{Row}
 use Rattle.graphs.specs.Number.{canonical}
@@ -18,7 +19,7 @@ use Rattle.graphs.proofs.Difference.ByNumber.{by-number-order}
 use Rattle.lattice.specs.Label.{Label}
 use Rattle.lattice.specs.Table.{admits}
 use Rattle.lattice.specs.Labels.{table_labels, OfAnySize}
-use Rattle.encode.specs.declared.Written.TheVariants as written
+use Rattle.encode.specs.declared.Unwritten.TheVariants as unwritten
 use Rattle.encode.specs.Encode.{yielding, fitted}
 use Rattle.record.specs.Read.{graph_of_rows}
 use Rattle.replies.specs.Reply.{Result, result_of}
@@ -31,11 +32,11 @@ use Rattle.demands.proofs.Demanded.Difference as Differed
 use Rattle.demands.proofs.Demanded.Before.{never-unwanted}
 
 -- Bytes that are written over themselves fit.
-fitted-own : (bytes : List ℕ) → fitted bytes bytes ≡ yielding (written.Length (length bytes)) (bytes ++ drop (length bytes) bytes)
+fitted-own : (bytes : List ℕ) → fitted bytes bytes ≡ yielding (Ok (length bytes)) (bytes ++ drop (length bytes) bytes)
 unfolding fitted
 fitted-own bytes =
     ap
-    (λ (b : Bool). cond b (yielding (written.Length (length bytes)) (bytes ++ drop (length bytes) bytes)) (yielding written.NoRoom bytes))
+    (λ (b : Bool). cond b (yielding (Ok (length bytes)) (bytes ++ drop (length bytes) bytes)) (yielding (Err unwritten.NoRoom) bytes))
     (le-leb (length bytes) (length bytes) (omega arith))
 
 module _ (n : ℕ) (t a b : List ℕ) (g s : List (Row Label)) (given : Given n t a b g s) (differ : admits n t ≡ true) (answers : AnswersBelow n t b a) where
@@ -68,7 +69,7 @@ module _ (n : ℕ) (t a b : List ℕ) (g s : List (Row Label)) (given : Given n 
           absurd (Differed.remainder-small n t a b g s given by-number-order below wants
           ((record-none n t given.opens eqb tells-eqb (remainder by_number n t g s) size).0 e))
       go (some bytes) e =
-          let own : differing n t a b bytes ≡ result_of (yielding (written.Length (length bytes)) (bytes ++ drop (length bytes) bytes)) =
+          let own : differing n t a b bytes ≡ result_of (yielding (Ok (length bytes)) (bytes ++ drop (length bytes) bytes)) =
           writes bytes e bytes ∙ ap result_of (fitted-own bytes) in
           let is : take (length bytes) (differing n t a b bytes).output ≡ bytes =
           ap (λ (r : Result). take (length bytes) r.output) own ∙ take-append_seam bytes (drop (length bytes) bytes) in (

@@ -10,13 +10,13 @@ use Rattle.graphs.specs.Graph.{Graph, TellsApart, Below}
 use Rattle.graphs.specs.Rows.{Row}
 use Rattle.graphs.specs.Generalize.{generalization}
 use Rattle.lattice.specs.Label.{Label}
-use Rattle.acceptance.specs.declared.Opened.TheVariants.{Accepted}
+use Rattle.std.specs.Prelude.{Ok}
 use Rattle.acceptance.specs.Reply.{opened}
 use Rattle.lattice.specs.Labels.{table_labels, OfAnySize, LeastOfAnySize, GreatestOfAnySize, IsCombination}
 use Rattle.acceptance.proofs.Acceptance.{opened-accepted}
 use Rattle.lattice.proofs.AnySize.{generalization-least, least-monotone, greatest-monotone, combines-broader, combines-not-refuted}
 use Rattle.record.specs.Read.{reading, accepted, graph_of_rows}
-use Rattle.replies.specs.declared.Reply.TheVariants.{Length, Cycle, Clash}
+use Rattle.replies.specs.Replies.{Length, Cycle, Clash}
 use Rattle.calls.specs.Calls.{generalizing, unifying}
 use Rattle.demands.specs.Demand.{Given, AnswersBelow}
 use Rattle.demands.proofs.Broader.{RecordBelow, answer-below, rows-below, below-answer, below-paths}
@@ -65,12 +65,12 @@ module _ (n : ℕ) (t a b c d : List ℕ) (g k h m : List (Row Label)) (narrow :
   paths-common-part l l' p q = below-paths n t _ _ (Broader.common-part-below n t a b c d a-below c-below out out' l l' p q)
 
 -- Graphs of any size always have a common part.
-pub any-size-common-part-exists : (n : ℕ) (t : List ℕ) → opened n t ≡ Accepted → {A B : Type 0} (g : Graph Label A) (h : Graph Label B) →
+pub any-size-common-part-exists : (n : ℕ) (t : List ℕ) → opened n t ≡ Ok tt → {A B : Type 0} (g : Graph Label A) (h : Graph Label B) →
     OfAnySize n t g → OfAnySize n t h → LeastOfAnySize n t g h (generalization (table_labels n t) g h)
 any-size-common-part-exists n t opens = generalization-least n t (opened-accepted n t (opened n t) refl opens)
 
 -- The theorems for graphs of any size, on any node types: g is below k, and h is below m.
-module _ (n : ℕ) (t : List ℕ) (opens : opened n t ≡ Accepted) {A B C D : Type 0} (g : Graph Label A) (k : Graph Label B) (h : Graph Label C)
+module _ (n : ℕ) (t : List ℕ) (opens : opened n t ≡ Ok tt) {A B C D : Type 0} (g : Graph Label A) (k : Graph Label B) (h : Graph Label C)
     (m : Graph Label D) (g-size : OfAnySize n t g) (k-size : OfAnySize n t k) (h-size : OfAnySize n t h) (m-size : OfAnySize n t m)
     (first : Below (table_labels n t) g k) (second : Below (table_labels n t) h m) where
   -- A combination of the narrower pair lies below every combination of the broader pair.

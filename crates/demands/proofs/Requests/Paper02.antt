@@ -14,7 +14,7 @@ use Rattle.graphs.specs.Rows.{Row}
 use Rattle.graphs.specs.Large.{links_in}
 use Rattle.graphs.specs.Number.{canonical, written}
 use Rattle.acceptance.specs.declared.TableFault.{TableFault}
-use Rattle.acceptance.specs.declared.Opened.TheVariants.{Accepted, Refused}
+use Rattle.std.specs.Prelude.{Ok, Err}
 use Rattle.lattice.specs.Label.{Label, is_full}
 use Rattle.lattice.specs.Labels.{table_labels}
 use Rattle.acceptance.specs.Reply.{opened}
@@ -26,7 +26,7 @@ use Rattle.rows.specs.Rows.{no_row, label_in, nodes_in, table_rows}
 use Rattle.rows.specs.Faults.{Sized, Unsized, KnownRow, UnknownRow, Twice, Formed, Earlier}
 use Rattle.rows.specs.Reordered.{Reordered, SameMembers}
 use Rattle.replies.specs.declared.Side.TheVariants.{First}
-use Rattle.replies.specs.declared.Reply.TheVariants.{Length, Counts, Table, Graph as Refusal, NoRoom, TooLarge, RowOutOfRange, RowTwice}
+use Rattle.replies.specs.Replies.{Length, Counts, Table, Graph as Refusal, NoRoom, TooLarge, RowOutOfRange, RowTwice}
 use Rattle.replies.specs.Reply.{refusal}
 use Rattle.calls.specs.Calls.{rewriting}
 use Rattle.planning.specs.Planning.{importing_rows, exported_rows, exporting}
@@ -125,52 +125,52 @@ module _ (n : ℕ) (t nodes out : List ℕ) {xs ys : List lent.Row} where
 
 module _ (n : ℕ) (t nodes : List ℕ) (rows : List lent.Row) (out : List ℕ) where
   -- 1 to 3 are given exactly where opening the type table gives them.
-  pub import-table : (fault : TableFault) → ((importing_rows n t rows nodes out).reply ≡ Table fault) ↔ (opened n t ≡ Refused fault)
+  pub import-table : (fault : TableFault) → ((importing_rows n t rows nodes out).reply ≡ Table fault) ↔ (opened n t ≡ Err fault)
   import-table = Import.table-exact n t rows nodes out
 
   -- "Nodes, counted by the type bytes, are 1 to 255 and rows at most 2,048, else 4", "there a byte count not divisible by 3 is 4".
-  pub import-size : ((importing_rows n t rows nodes out).reply ≡ Refusal Malformed First) ↔ ((opened n t ≡ Accepted) × Unsized nodes (length rows))
+  pub import-size : ((importing_rows n t rows nodes out).reply ≡ Refusal Malformed First) ↔ ((opened n t ≡ Ok tt) × Unsized nodes (length rows))
   import-size = Import.graph-exact n t rows nodes out Malformed
 
   -- "afterwards a row with a feature above 63 or a node number outside the count is 14".
   pub import-row : ((importing_rows n t rows nodes out).reply ≡ RowOutOfRange) ↔
-      ((opened n t ≡ Accepted) × Sized nodes (length rows) × ((r : lent.Row) × Memᴰ r rows × UnknownRow (nodes_in nodes) r))
+      ((opened n t ≡ Ok tt) × Sized nodes (length rows) × ((r : lent.Row) × Memᴰ r rows × UnknownRow (nodes_in nodes) r))
   import-row = Import.unknown-exact n t rows nodes out
 
   -- "two rows with one parent and feature are 15".
   pub import-twice : ((importing_rows n t rows nodes out).reply ≡ RowTwice) ↔
-      ((opened n t ≡ Accepted) × Sized nodes (length rows) × ((r : lent.Row) → Memᴰ r rows → KnownRow (nodes_in nodes) r) × Twice rows)
+      ((opened n t ≡ Ok tt) × Sized nodes (length rows) × ((r : lent.Row) → Memᴰ r rows → KnownRow (nodes_in nodes) r) × Twice rows)
   import-twice = Import.row-twice-exact n t rows nodes out
 
   -- "and then 5 for types", "A lowest level above the highest is 5".
   pub import-label : ((importing_rows n t rows nodes out).reply ≡ Refusal OutOfRange First) ↔
-      ((opened n t ≡ Accepted) × Formed nodes rows × ((v : ℕ) × (v < nodes_in nodes) × OutsideLabel n (label_in nodes v)))
+      ((opened n t ≡ Ok tt) × Formed nodes rows × ((v : ℕ) × (v < nodes_in nodes) × OutsideLabel n (label_in nodes v)))
   import-label = Import.graph-exact n t rows nodes out OutOfRange
 
   -- "a type with bit 7 is 5".
-  pub import-bit-seven : opened n t ≡ Accepted → Formed nodes rows → (v : ℕ) → v < nodes_in nodes → 128 ≤ get_or nodes (v * 3) 0 →
+  pub import-bit-seven : opened n t ≡ Ok tt → Formed nodes rows → (v : ℕ) → v < nodes_in nodes → 128 ≤ get_or nodes (v * 3) 0 →
       (importing_rows n t rows nodes out).reply ≡ Refusal OutOfRange First
   import-bit-seven = Import.bit-seven n t rows nodes out
 
   -- "6, 7 and 8 as for records": 6 is given where a node reaches itself.
   pub import-cyclic : ((importing_rows n t rows nodes out).reply ≡ Refusal Cyclic First) ↔
-      ((opened n t ≡ Accepted) × Formed nodes rows × ((v : ℕ) → v < nodes_in nodes → InsideLabel n (label_in nodes v)) × Loops nodes rows)
+      ((opened n t ≡ Ok tt) × Formed nodes rows × ((v : ℕ) → v < nodes_in nodes → InsideLabel n (label_in nodes v)) × Loops nodes rows)
   import-cyclic = Import.graph-exact n t rows nodes out Cyclic
 
   -- 7 is given where the root does not reach some node.
   pub import-unreached : ((importing_rows n t rows nodes out).reply ≡ Refusal Unreached First) ↔
-      ((opened n t ≡ Accepted) × Formed nodes rows × ((v : ℕ) → v < nodes_in nodes → InsideLabel n (label_in nodes v)) × (Loops nodes rows → ⊥) ×
+      ((opened n t ≡ Ok tt) × Formed nodes rows × ((v : ℕ) → v < nodes_in nodes → InsideLabel n (label_in nodes v)) × (Loops nodes rows → ⊥) ×
       Unreachable nodes rows)
   import-unreached = Import.graph-exact n t rows nodes out Unreached
 
   -- 8 is given where the output is shorter than the record.
   pub import-room : ((importing_rows n t rows nodes out).reply ≡ NoRoom) ↔
-      ((opened n t ≡ Accepted) × Importable n nodes rows × ((bytes : List ℕ) × (record_of eqb (table_graph nodes rows) ≡ some bytes) × (length out < length bytes)))
+      ((opened n t ≡ Ok tt) × Importable n nodes rows × ((bytes : List ℕ) × (record_of eqb (table_graph nodes rows) ≡ some bytes) × (length out < length bytes)))
   import-room = Imported.room-exact n t nodes rows out
 
   -- Where none of these numbers is due, and only there, import answers the record's length.
   pub import-length : (l : ℕ) → ((importing_rows n t rows nodes out).reply ≡ Length l) ↔
-      ((opened n t ≡ Accepted) × Importable n nodes rows ×
+      ((opened n t ≡ Ok tt) × Importable n nodes rows ×
       ((bytes : List ℕ) × (record_of eqb (table_graph nodes rows) ≡ some bytes) × ((length bytes ≡ l) × (length bytes ≤ length out))))
   import-length = Imported.length-exact n t nodes rows out
 
@@ -239,23 +239,23 @@ module _ (n : ℕ) (t bytes : List ℕ) (rows : List lent.Row) (nodes : List ℕ
 
 module _ (n : ℕ) (t bytes : List ℕ) (rows : List lent.Row) (nodes : List ℕ) where
   -- 1 to 3 are given exactly where opening the type table gives them.
-  pub export-table : (fault : TableFault) → ((exporting n t bytes rows nodes).reply ≡ Table fault) ↔ (opened n t ≡ Refused fault)
+  pub export-table : (fault : TableFault) → ((exporting n t bytes rows nodes).reply ≡ Table fault) ↔ (opened n t ≡ Err fault)
   export-table = Export.table-exact n t bytes rows nodes
 
   -- 4 to 7 are given exactly where reading the record gives them.
   pub export-graph : (fault : GraphFault) →
-      ((exporting n t bytes rows nodes).reply ≡ Refusal fault First) ↔ ((opened n t ≡ Accepted) × (reading n bytes ≡ refused fault))
+      ((exporting n t bytes rows nodes).reply ≡ Refusal fault First) ↔ ((opened n t ≡ Ok tt) × (reading n bytes ≡ refused fault))
   export-graph = Export.graph-exact n t bytes rows nodes
 
   -- "Too few rows or types lent to export is 8".
   pub export-room : ((exporting n t bytes rows nodes).reply ≡ NoRoom) ↔
-      ((opened n t ≡ Accepted) ×
+      ((opened n t ≡ Ok tt) ×
       ((form : List (Row Label)) × WrittenForm n bytes form × ((length rows < links_in form) ⊎ (length nodes < length form * 3))))
   export-room = Export.room-exact n t bytes rows nodes
 
   -- Where none of these numbers is due, and only there, export answers the counts.
   pub export_counts : (a b : ℕ) → ((exporting n t bytes rows nodes).reply ≡ Counts a b) ↔
-      ((opened n t ≡ Accepted) ×
+      ((opened n t ≡ Ok tt) ×
       ((form : List (Row Label)) × WrittenForm n bytes form × (length form ≡ a) × (links_in form ≡ b) ×
       ((links_in form ≤ length rows) × (length form * 3 ≤ length nodes))))
   export_counts = Export.counts-exact n t bytes rows nodes

@@ -8,13 +8,13 @@ use lib.ListN.{take}
 use Rattle.graphs.specs.Graph.{Below, SameMeaning}
 use Rattle.graphs.specs.Rows.{Row}
 use Rattle.lattice.specs.Label.{Label}
-use Rattle.acceptance.specs.declared.Opened.TheVariants.{Accepted}
+use Rattle.std.specs.Prelude.{Ok}
 use Rattle.acceptance.specs.Reply.{opened}
 use Rattle.lattice.specs.Labels.{table_labels}
 use Rattle.record.specs.declared.GraphFault.{GraphFault}
 use Rattle.record.specs.Read.{reading, accepted, graph_of_rows}
 use Rattle.replies.specs.declared.Side.TheVariants.{First, Second}
-use Rattle.replies.specs.declared.Reply.TheVariants.{Length, Same, Under, Above, Neither, Graph as Refusal, NotBelow}
+use Rattle.replies.specs.Replies.{Length, Same, Under, Above, Neither, Graph as Refusal, NotBelow}
 use Rattle.calls.specs.Calls.{rewriting, ordering, differing}
 use Rattle.demands.specs.Demand.{Given, AnswersNotBelow, WrittenRecord}
 use Rattle.demands.proofs.Demands.{meaning-bytes, meaning-order, written-one-form, order-exact, difference-not-below}
@@ -58,7 +58,7 @@ module _ (n : ℕ) (t a b : List ℕ) (s g : List (Row Label)) (given : Given n 
       (λ e. means (there e), λ e. back (answers e))
 
 -- For two records in written form, same is answered exactly where their bytes are equal.
-pub same-written : (n : ℕ) (t a b : List ℕ) → opened n t ≡ Accepted → (one : WrittenRecord n a) (other : WrittenRecord n b) →
+pub same-written : (n : ℕ) (t a b : List ℕ) → opened n t ≡ Ok tt → (one : WrittenRecord n a) (other : WrittenRecord n b) →
     (ordering n t a b ≡ Same) ↔ (a ≡ b)
 same-written n t a b opens one other =
     let (means, answers) =

@@ -11,7 +11,7 @@ use Rattle.graphs.specs.OfRows.{same_pair}
 use Rattle.graphs.proofs.Form.Rules.{form-short}
 use Rattle.lattice.specs.Label.{Label}
 use Rattle.generalize.proofs.Sides.{tells-pair}
-use Rattle.replies.specs.declared.Reply.TheVariants.{TooLarge}
+use Rattle.replies.specs.Replies.{TooLarge}
 use Rattle.calls.specs.Calls.{generalizing}
 use Rattle.demands.specs.Demand.{Given, Large, common}
 use Rattle.demands.proofs.Demanded.CommonPart as Common

@@ -12,7 +12,7 @@ use Rattle.graphs.specs.Rows.{Row}
 use Rattle.lattice.specs.Label.{Label}
 use Rattle.graphs.specs.Difference.{by_number}
 use Rattle.graphs.proofs.Difference.ByNumber.{by-number-order}
-use Rattle.acceptance.specs.declared.Opened.TheVariants.{Accepted}
+use Rattle.std.specs.Prelude.{Ok}
 use Rattle.acceptance.specs.Reply.{opened}
 use Rattle.lattice.specs.Labels.{table_labels}
 use Rattle.lattice.specs.Table as types
@@ -20,7 +20,7 @@ use Rattle.acceptance.proofs.Acceptance.{opened-accepted}
 use Rattle.record.proofs.Accepted.{accepted-rules}
 use Rattle.encode.specs.Encode.{fitted}
 use Rattle.record.specs.Read.{reading, accepted, graph_of_rows}
-use Rattle.replies.specs.declared.Reply.TheVariants.{Length, NotBelow, NoWantedType}
+use Rattle.replies.specs.Replies.{Length, NotBelow, NoWantedType}
 use Rattle.replies.specs.Reply.{result_of}
 use Rattle.calls.specs.Calls.{differing}
 use Rattle.demands.specs.Before.{differing_before}
@@ -71,6 +71,6 @@ admitted-wanted n t differ a b out = never-unwanted n t differ out a b
 
 -- Over every accepted table, a graph's difference from itself is a lone top: the call writes its record, or answers 8 where the output is
 -- shorter.
-pub itself-lone-top : (n : ℕ) (t a : List ℕ) (s : List (Row Label)) → opened n t ≡ Accepted → reading n a ≡ accepted s → (out : List ℕ) →
+pub itself-lone-top : (n : ℕ) (t a : List ℕ) (s : List (Row Label)) → opened n t ≡ Ok tt → reading n a ≡ accepted s → (out : List ℕ) →
     differing n t a a out ≡ result_of (fitted (lone_top n) out)
 itself-lone-top = itself

@@ -17,7 +17,7 @@ use Rattle.record.specs.Read.{reading, graph_of_rows}
 use Rattle.record.specs.Spelled.{Spells}
 use Rattle.record.specs.Unranged.{unranged}
 use Rattle.record.proofs.Theorems as records
-use Rattle.replies.specs.declared.Reply.TheVariants.{Length}
+use Rattle.replies.specs.Replies.{Length}
 use Rattle.calls.specs.Calls.{rewriting, ordering, generalizing, unifying, differing}
 use Rattle.demands.specs.Demand.{WrittenRecord}
 use Rattle.demands.specs.Unranged.{rewriting_types, ordering_types, generalizing_types, unifying_types, differing_types, WritesUnranged}

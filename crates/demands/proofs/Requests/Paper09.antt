@@ -9,7 +9,7 @@ use Rattle.graphs.specs.Graph.{Graph}
 use Rattle.graphs.specs.Rows.{Row}
 use Rattle.graphs.specs.Generalize.{IsGeneralization}
 use Rattle.lattice.specs.Label.{Label}
-use Rattle.acceptance.specs.declared.Opened.TheVariants.{Accepted}
+use Rattle.std.specs.Prelude.{Ok}
 use Rattle.acceptance.specs.Reply.{opened}
 use Rattle.lattice.specs.Labels.{table_labels, OfAnySize, LeastOfAnySize, GreatestOfAnySize, IsCombination}
 use Rattle.acceptance.proofs.Acceptance.{opened-accepted}
@@ -19,7 +19,7 @@ use Rattle.record.specs.Appropriate.{list_accepted, appropriate, Appropriate}
 use Rattle.record.proofs.Accepted.{accepted-rules}
 use Rattle.record.proofs.Obeying as Obeying
 use Rattle.replies.specs.declared.Side.TheVariants.{First, Second}
-use Rattle.replies.specs.declared.Reply.TheVariants.{Length, Graph as Refusal, TypeList}
+use Rattle.replies.specs.Replies.{Length, Graph as Refusal, TypeList}
 use Rattle.calls.specs.Calls.{rewriting, generalizing, unifying, differing}
 use Rattle.calls.specs.Appropriate.{rewriting_appropriate, generalizing_appropriate, unifying_appropriate}
 use Rattle.demands.specs.Appropriate.{Passes, Breaks, Fits, Obeys}
@@ -28,7 +28,7 @@ use Rattle.demands.proofs.Demanded.Appropriate as Listing
 use Rattle.demands.proofs.Demanded.Forbidden as Forbidden
 
 -- Over paths, for every list: a common part or combination of graphs of any size that obey the list obeys the list.
-module _ (n : ℕ) (t list : List ℕ) (opens : opened n t ≡ Accepted) (listed : list_accepted n list ≡ true) {A B C : Type 0} (g : Graph Label A)
+module _ (n : ℕ) (t list : List ℕ) (opens : opened n t ≡ Ok tt) (listed : list_accepted n list ≡ true) {A B C : Type 0} (g : Graph Label A)
     (h : Graph Label B) (g-size : OfAnySize n t g) (h-size : OfAnySize n t h) (g-obeys : Appropriate t list g) (h-obeys : Appropriate t list h)
     (k : Graph Label C) where
   -- The common part over paths: "the paths in both, each with the join of its two types".
@@ -66,15 +66,15 @@ module _ (n : ℕ) (t list out : List ℕ) where
 
   -- 17 is given exactly where the table is accepted and the list is not.
   pub rewriting-list : (a : List ℕ) →
-      ((rewriting_appropriate n t list a out).reply ≡ TypeList) ↔ ((opened n t ≡ Accepted) × (list_accepted n list ≡ false))
+      ((rewriting_appropriate n t list a out).reply ≡ TypeList) ↔ ((opened n t ≡ Ok tt) × (list_accepted n list ≡ false))
   rewriting-list = Listing.rewriting-list n t list out
 
   pub generalizing-list : (a b : List ℕ) →
-      ((generalizing_appropriate n t list a b out).reply ≡ TypeList) ↔ ((opened n t ≡ Accepted) × (list_accepted n list ≡ false))
+      ((generalizing_appropriate n t list a b out).reply ≡ TypeList) ↔ ((opened n t ≡ Ok tt) × (list_accepted n list ≡ false))
   generalizing-list = Listing.generalizing-list n t list out
 
   pub unifying-list : (a b : List ℕ) →
-      ((unifying_appropriate n t list a b out).reply ≡ TypeList) ↔ ((opened n t ≡ Accepted) × (list_accepted n list ≡ false))
+      ((unifying_appropriate n t list a b out).reply ≡ TypeList) ↔ ((opened n t ≡ Ok tt) × (list_accepted n list ≡ false))
   unifying-list = Listing.unifying-list n t list out
 
   -- "obey it too, and this must hold for every list": rewriting the written record with the same list gives that record again.
@@ -93,25 +93,25 @@ module _ (n : ℕ) (t list out : List ℕ) where
 module _ (n : ℕ) (t list out : List ℕ) where
   -- 18 is given exactly where the table and the list are accepted and the graph, accepted without the list, has a link that the list forbids.
   pub rewriting-forbidden : (a : List ℕ) → ((rewriting_appropriate n t list a out).reply ≡ Refusal Inappropriate First) ↔
-      ((opened n t ≡ Accepted) × (list_accepted n list ≡ true) × Breaks n t list a)
+      ((opened n t ≡ Ok tt) × (list_accepted n list ≡ true) × Breaks n t list a)
   rewriting-forbidden = Forbidden.rewriting-forbids n t list out
 
   -- 18 "tells which graph": it is given for the first graph before the second is looked at, and for the second where the first obeys the list.
   module _ (a b : List ℕ) where
     pub generalizing-forbidden-first : ((generalizing_appropriate n t list a b out).reply ≡ Refusal Inappropriate First) ↔
-        ((opened n t ≡ Accepted) × (list_accepted n list ≡ true) × Breaks n t list a)
+        ((opened n t ≡ Ok tt) × (list_accepted n list ≡ true) × Breaks n t list a)
     generalizing-forbidden-first = Forbidden.generalizing-forbids-first n t list out a b
 
     pub generalizing-forbidden-second : ((generalizing_appropriate n t list a b out).reply ≡ Refusal Inappropriate Second) ↔
-        ((opened n t ≡ Accepted) × (list_accepted n list ≡ true) × Fits n t list a × Breaks n t list b)
+        ((opened n t ≡ Ok tt) × (list_accepted n list ≡ true) × Fits n t list a × Breaks n t list b)
     generalizing-forbidden-second = Forbidden.generalizing-forbids-second n t list out a b
 
     pub unifying-forbidden-first : ((unifying_appropriate n t list a b out).reply ≡ Refusal Inappropriate First) ↔
-        ((opened n t ≡ Accepted) × (list_accepted n list ≡ true) × Breaks n t list a)
+        ((opened n t ≡ Ok tt) × (list_accepted n list ≡ true) × Breaks n t list a)
     unifying-forbidden-first = Forbidden.unifying-forbids-first n t list out a b
 
     pub unifying-forbidden-second : ((unifying_appropriate n t list a b out).reply ≡ Refusal Inappropriate Second) ↔
-        ((opened n t ≡ Accepted) × (list_accepted n list ≡ true) × Fits n t list a × Breaks n t list b)
+        ((opened n t ≡ Ok tt) × (list_accepted n list ≡ true) × Fits n t list a × Breaks n t list b)
     unifying-forbidden-second = Forbidden.unifying-forbids-second n t list out a b
 
 -- Whatever is handed in, every refusal, also 17 and 18, leaves the output as it was. Beside a length, the first bytes are a written record, and

@@ -17,7 +17,7 @@ use Rattle.graphs.specs.Difference.{Link, by_number, place_in, by_reading}
 use Rattle.graphs.specs.Reasons.{along_links, written_order}
 use Rattle.graphs.proofs.Difference.ByReading.{by-reading, by-reading-order}
 use Rattle.acceptance.specs.declared.TableFault.{TableFault}
-use Rattle.acceptance.specs.declared.Opened.TheVariants.{Accepted, Refused}
+use Rattle.std.specs.Prelude.{Ok, Err}
 use Rattle.acceptance.specs.Reply.{opened}
 use Rattle.lattice.specs.Labels.{table_labels}
 use Rattle.record.specs.declared.GraphFault.{GraphFault}
@@ -25,8 +25,8 @@ use Rattle.record.specs.Read.{reading, refused, accepted, graph_of_rows}
 use Rattle.link_orders.specs.LinkOrders.{is_reading_order, EachOnce}
 use Rattle.link_orders.proofs.ReadingOrder as Reading
 use Rattle.replies.specs.declared.Side.TheVariants.{First, Second}
-use Rattle.replies.specs.declared.Reply.{Reply}
-use Rattle.replies.specs.declared.Reply.TheVariants.{Length, Table, Graph as Refusal, TooLarge, NotBelow, NoWantedType, ReadingOrder, NoReasonRoom}
+use Rattle.replies.specs.Replies.{Reply}
+use Rattle.replies.specs.Replies.{Length, Table, Graph as Refusal, TooLarge, NotBelow, NoWantedType, ReadingOrder, NoReasonRoom}
 use Rattle.replies.specs.Reply.{refusal, refusing, length_of}
 use Rattle.calls.specs.Calls.{checked, differing, differing_by}
 use Rattle.difference.specs.Explained.{explained_result}
@@ -108,17 +108,17 @@ module _ (n : ℕ) (t list a b : List ℕ) (g s : List (Row Label)) (given : Giv
 
 module _ (n : ℕ) (t list a b out : List ℕ) where
   -- "A list that is anything else is 19, after the table": 19 is given exactly where the table is accepted and the list is not.
-  pub difference-by-list : ((differing_by n t list a b out).reply ≡ ReadingOrder) ↔ ((opened n t ≡ Accepted) × (is_reading_order list ≡ false))
+  pub difference-by-list : ((differing_by n t list a b out).reply ≡ ReadingOrder) ↔ ((opened n t ≡ Ok tt) × (is_reading_order list ≡ false))
   difference-by-list =
       list-exact (differing-checked n t list a b out) (λ fault e. let z : ◌≡◌ {A = ℕ} 0 1 = cc in omega arith)
       (λ e. parting-low (by_reading list) n t out {k = 19} (omega arith) a b (ap (λ (r : Reply). refusal r) e))
 
   -- The table's refusals come before the list's, whatever the list.
-  pub difference-by-table : (fault : TableFault) → opened n t ≡ Refused fault → differing_by n t list a b out ≡ refusing (Table fault) out
+  pub difference-by-table : (fault : TableFault) → opened n t ≡ Err fault → differing_by n t list a b out ≡ refusing (Table fault) out
   difference-by-table fault e = sym (table-before-list (differing-checked n t list a b out) fault e)
 
   -- The graphs' refusals come after the list's, and the first graph's come before the second's.
-  module _ (opens : opened n t ≡ Accepted) (listed : is_reading_order list ≡ true) where
+  module _ (opens : opened n t ≡ Ok tt) (listed : is_reading_order list ≡ true) where
     pub difference-by-first : (fault : GraphFault) → reading n a ≡ refused fault → differing_by n t list a b out ≡ refusing (Refusal fault First) out
     unfolding differing_by
     difference-by-first fault first = rw (opens, listed, first)

@@ -6,9 +6,11 @@ use mathlib.Core.Option.{Option}
 use Prim.Native.Nat.{ℕ, ◌<◌}
 use lib.Bits.{bit_and, bit_or}
 use lib.ListN.{length}
-use Rattle.acceptance.specs.declared.Opened.{Opened}
+use Rattle.std.specs.Prelude.{Result, Ok}
+use Rattle.acceptance.specs.declared.TableFault.{TableFault}
+use Rattle.acceptance.specs.Reply.{TableAnswer}
 use Rattle.bounds.specs.declared.Form.{Form}
-use Rattle.bounds.specs.declared.Form.TheVariants.{AsSets, AsCells}
+use Rattle.bounds.specs.declared.Form.TheVariants.{Sets, Cells}
 use Rattle.bounds.specs.Opening.{Chooses, Opening}
 use Rattle.lattice.specs.Words.{Words}
 use Rattle.bounds.specs.Primes.{word_prime}
@@ -25,7 +27,7 @@ module _ (n : ℕ) (t : List ℕ) (ok : types.accepted n t ≡ true) where
 
   -- "Opening such a table then fills neither; other tables use the old form". Where the meet spreads over the join, the lent cells stay as they
   -- were, and the sets are those of the types; else the cells are filled with the meets or the joins.
-  module _ (up : Bool) (bound : ℕ → ℕ → Option ℕ) (answer : Opened) (sets : List ℕ) (lent left : List (List ℕ))
+  module _ (up : Bool) (bound : ℕ → ℕ → Option ℕ) (answer : TableAnswer) (sets : List ℕ) (lent left : List (List ℕ))
       (opening : Opening up n t bound answer sets lent left) where
     pub sets-unfilled : distributive n t ≡ true → left ≡ lent
     sets-unfilled = (opening.holds ok).unfilled
@@ -38,11 +40,11 @@ module _ (n : ℕ) (t : List ℕ) (ok : types.accepted n t ≡ true) where
 
   -- "Opening such a table then fills neither": a common part or a combination over such a table lends no cells at all, since the choice of the
   -- form asks for cells exactly where the meet does not spread over the join.
-  module _ (up : Bool) (answer : Form) (sets : List ℕ) (chooses : Chooses up n t answer sets) where
-    pub sets-chosen : answer ≡ AsSets → distributive n t ≡ true
+  module _ (up : Bool) (answer : Result Form TableFault) (sets : List ℕ) (chooses : Chooses up n t answer sets) where
+    pub sets-chosen : answer ≡ Ok Sets → distributive n t ≡ true
     sets-chosen e = (chooses.as-sets e).spread
 
-    pub cells-chosen : answer ≡ AsCells → distributive n t ≡ false
+    pub cells-chosen : answer ≡ Ok Cells → distributive n t ≡ false
     cells-chosen e = (chooses.as-cells e).other ok
 
   -- "Meet is then the overlap of sets and join their union. Show that both are those the 64 by 64 tables would hold at every pair": x and y are

@@ -16,7 +16,7 @@ use Rattle.graphs.specs.Reasons.{along_links, written_order}
 use Rattle.graphs.proofs.Difference.ByNumber.{by-number-order}
 use Rattle.lattice.specs.Labels.{table_labels}
 use Rattle.record.specs.Read.{reading, accepted, graph_of_rows}
-use Rattle.replies.specs.declared.Reply.TheVariants.{Length, NoReasonRoom}
+use Rattle.replies.specs.Replies.{Length, NoReasonRoom}
 use Rattle.calls.specs.Calls.{differing}
 use Rattle.replies.specs.Reply.{length_of}
 use Rattle.difference.specs.Explained.{explained_result}

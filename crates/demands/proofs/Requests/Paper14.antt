@@ -11,7 +11,7 @@ use Rattle.graphs.specs.Graph.{Graph, TellsApart, Reached}
 use Rattle.graphs.specs.Rows.{Row}
 use Rattle.graphs.specs.Number.{canonical, written}
 use Rattle.acceptance.specs.declared.TableFault.{TableFault}
-use Rattle.acceptance.specs.declared.Opened.TheVariants.{Accepted, Refused}
+use Rattle.std.specs.Prelude.{Ok, Err}
 use Rattle.lattice.specs.Label.{Label, is_full}
 use Rattle.lattice.specs.Labels.{OfAnySize}
 use Rattle.acceptance.specs.Reply.{opened}
@@ -22,7 +22,7 @@ use Rattle.encode.specs.Encode.{fitted}
 use Rattle.record.specs.declared.GraphFault.{GraphFault}
 use Rattle.record.specs.Read.{reading, refused, accepted, graph_of_rows}
 use Rattle.replies.specs.declared.Side.TheVariants.{First}
-use Rattle.replies.specs.declared.Reply.TheVariants.{Length, End, Table, Graph as Refusal, FeatureCount, NotListed}
+use Rattle.replies.specs.Replies.{Length, End, Table, Graph as Refusal, FeatureCount, NotListed}
 use Rattle.replies.specs.Reply.{resulting, result_of, refusing}
 use Rattle.listed.specs.Listing.{precedes, Listed, LeastAbove, features_below, unranged_rows, listing, calls}
 use Rattle.listed.proofs.Order.{Ascends}
@@ -39,9 +39,9 @@ pub listed-words : (n F : ℕ) (t bytes : List ℕ) → Listed n F bytes ↔
     (features_below F rows ≡ true) × (unranged_rows rows ≡ true))
 listed-words = Steps.listed-exactly
 
-module _ (n : ℕ) (t : List ℕ) (opens : opened n t ≡ Accepted) (F : ℕ) (count : Counts F) where
+module _ (n : ℕ) (t : List ℕ) (opens : opened n t ≡ Ok tt) (F : ℕ) (count : Counts F) where
   size : (2 ≤ n) × (n ≤ 64) × (length t ≡ 8 * n)
-  size = accepted-size n t (opened-accepted n t Accepted (sym opens) refl)
+  size = accepted-size n t (opened-accepted n t (Ok tt) (sym opens) refl)
 
   -- "list all": the list has the listed records and no others.
   pub list-has : (bytes : List ℕ) → Memᴰ bytes (listing n F) ↔ Listed n F bytes
@@ -111,24 +111,24 @@ module _ (n : ℕ) (t : List ℕ) (F : ℕ) (bytes out : List ℕ) where
   -- The end is the reply exactly where the table is accepted, F is 1 or 2, and no listed record is above the given one, which is listed or has no
   -- bytes.
   pub end-exact : ((stepping n t F bytes out).reply ≡ End) ↔
-      ((opened n t ≡ Accepted) × Counts F × Steps.Begun n F bytes × ((s : List ℕ) → Listed n F s → precedes bytes s ≡ true → ⊥))
+      ((opened n t ≡ Ok tt) × Counts F × Steps.Begun n F bytes × ((s : List ℕ) → Listed n F s → precedes bytes s ≡ true → ⊥))
   end-exact = Steps.end-exactly n t F bytes out
 
   -- "F outside 1 and 2 is 23": 23 is given exactly there, after the table and the record are accepted.
-  pub feature-count-exact : ((stepping n t F bytes out).reply ≡ FeatureCount) ↔ ((opened n t ≡ Accepted) × Steps.Read n bytes × (Counts F → ⊥))
+  pub feature-count-exact : ((stepping n t F bytes out).reply ≡ FeatureCount) ↔ ((opened n t ≡ Ok tt) × Steps.Read n bytes × (Counts F → ⊥))
   feature-count-exact = Steps.count-exactly n t F bytes out
 
   -- "a record that is read but not listed is 24": 24 is given exactly there, after the table and F are accepted.
   pub not-listed-exact : ((stepping n t F bytes out).reply ≡ NotListed) ↔
-      ((rows : List (Row Label)) × (opened n t ≡ Accepted) × Counts F × (bytes ≡ [] → ⊥) × (reading n bytes ≡ accepted rows) × (Listed n F bytes → ⊥))
+      ((rows : List (Row Label)) × (opened n t ≡ Ok tt) × Counts F × (bytes ≡ [] → ⊥) × (reading n bytes ≡ accepted rows) × (Listed n F bytes → ⊥))
   not-listed-exact = Steps.unlisted-exactly n t F bytes out
 
   -- "both after the table": the table's refusals come first.
-  pub table-first : (fault : TableFault) → opened n t ≡ Refused fault → stepping n t F bytes out ≡ refusing (Table fault) out
+  pub table-first : (fault : TableFault) → opened n t ≡ Err fault → stepping n t F bytes out ≡ refusing (Table fault) out
   table-first = Steps.table-refused n t F bytes out
 
   -- "and the record's own 4 to 7": over an accepted table, the record's refusals come before 23 and 24.
-  pub record-first : opened n t ≡ Accepted → (fault : GraphFault) → (bytes ≡ [] → ⊥) → reading n bytes ≡ refused fault →
+  pub record-first : opened n t ≡ Ok tt → (fault : GraphFault) → (bytes ≡ [] → ⊥) → reading n bytes ≡ refused fault →
       stepping n t F bytes out ≡ refusing (Refusal fault First) out
   record-first = Steps.record-refused n t F bytes out
 

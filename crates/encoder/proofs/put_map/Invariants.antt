@@ -9,6 +9,3 @@ use Rattle.encoder.proofs.put_map.Given as goal
 abbrev pub invariant-loop-i : goal.invariant-loop-i
 invariant-loop-i l =
     (l.i ≤ 8) × (length l.out ≡ length l.initial.out) × (sets l.initial.out l.at (low_bytes 8 l.map) ≡ sets l.out (l.at + l.i) (low_bytes (8 - l.i) l.left))
-
-abbrev pub decreases-loop-i : goal.decreases-loop-i
-decreases-loop-i l = 8 - l.i

@@ -1,30 +1,41 @@
 -- `add` meets its contract: the table in the state is opened; then the program is joined with what is gathered, and the length is put.
 use mathlib.Core.Path.{refl, sym, ◌∙◌}
+use Rattle.std.proofs.lemmas.Result.{err_from_is_err_and}
 use Rattle.acceptance.proofs.Acceptance.{opened-accepted}
+use Rattle.gathering.proofs.Told.{told-ok, told-err, handed-on, settled-none, settled-some}
 use Rattle.gathering.proofs.Joins.{add-refused, settle-fits, add-accepted}
 use Rattle.gathering.proofs.add.Goals as goal
 
 pub slice_bounds-join-end : goal.slice_bounds-join-end
-slice_bounds-join-end c = sym c.open-opened.ensures.long
+slice_bounds-join-end c = sym c.open.ensures.long
 
-pub join-reply-requires : goal.join-reply-requires
-join-reply-requires c =
-    let ok = opened-accepted c.find-found.result.types _ _ c.open-opened.ensures.answers c.in-Accepted.is in
-    (_, record { ok = ok; lent = _; long = λ d. refl; holding = c.open-opened.ensures.holds ok })
+pub join-requires : goal.join-requires
+join-requires c =
+    let ok = opened-accepted _ _ _ c.open.ensures.answers c.in_ok-open.was in
+    (_, record { ok = ok; lent = _; long = λ d. refl; holding = c.open.ensures.holds ok })
 
-pub settle-requires : goal.settle-requires
-settle-requires c =
-    let ok = opened-accepted c.find-found.result.types _ _ c.open-opened.ensures.answers c.in-Accepted.is in
-    settle-fits c.find-found.ensures c.open-opened.ensures.answers c.args.bytes.now
-    (c.join-reply.ensures _ (record { ok = ok; lent = _; long = λ d. refl; holding = c.open-opened.ensures.holds ok })) _
+pub put_length-requires : goal.put_length-requires
+put_length-requires c =
+    let ok = opened-accepted _ _ _ c.open.ensures.answers c.in_ok-open.was in
+    settle-fits c.find-types.ensures c.open.ensures.answers c.args.bytes.now
+    (c.join.ensures _ (record { ok = ok; lent = _; long = λ d. refl; holding = c.open.ensures.holds ok })) _ _ (told-ok c.in_ok-length.was)
 
-pub returns-in-Refused : goal.returns-in-Refused
-returns-in-Refused c = add-refused c.find-found.ensures c.open-opened.ensures.answers c.args.bytes.now _ c.in-Refused.is
+pub returns-in_err-open : goal.returns-in_err-open
+returns-in_err-open c =
+    let given = err_from_is_err_and c.from_residual.result c.from_residual.ensures.1 in
+    rw (given.1, given.2) (add-refused c.find-types.ensures c.open.ensures.answers c.args.bytes.now _ c.in_err-open.was)
 
-pub returns-in-Accepted : goal.returns-in-Accepted
-returns-in-Accepted c =
-    let ok = opened-accepted c.find-found.result.types _ _ c.open-opened.ensures.answers c.in-Accepted.is in
-    c.settle.ensures ∙
-    add-accepted c.find-found.ensures c.open-opened.ensures.answers c.args.bytes.now
-    (c.join-reply.ensures _ (record { ok = ok; lent = _; long = λ d. refl; holding = c.open-opened.ensures.holds ok }))
-    c.in-Accepted.is
+pub returns-in_err-length : goal.returns-in_err-length
+returns-in_err-length c =
+    let ok = opened-accepted _ _ _ c.open.ensures.answers c.in_ok-open.was in
+    rw (handed-on c.from_residual-in_err-length.ensures.1 c.in_err-length.was)
+    (settled-none c.find-types.result.end _ _ (told-err c.in_err-length.was) ∙
+    add-accepted c.find-types.ensures c.open.ensures.answers c.args.bytes.now
+    (c.join.ensures _ (record { ok = ok; lent = _; long = λ d. refl; holding = c.open.ensures.holds ok })) c.in_ok-open.was)
+
+pub returns : goal.returns
+returns c =
+    let ok = opened-accepted _ _ _ c.open.ensures.answers c.in_ok-open.was in
+    settled-some c.find-types.result.end _ _ _ (told-ok c.in_ok-length.was) c.put_length.ensures ∙
+    add-accepted c.find-types.ensures c.open.ensures.answers c.args.bytes.now
+    (c.join.ensures _ (record { ok = ok; lent = _; long = λ d. refl; holding = c.open.ensures.holds ok })) c.in_ok-open.was

@@ -2,8 +2,8 @@
 use Rattle.gathering.proofs.Answers.{nothing-refused, nothing-accepted}
 use Rattle.gathering.proofs.nothing_after.Goals as goal
 
-pub returns-in-Refused : goal.returns-in-Refused
-returns-in-Refused c = nothing-refused c.read-verdict.ensures _ c.in-Refused.is
+pub returns-in-Err : goal.returns-in-Err
+returns-in-Err c = nothing-refused c.read.ensures _ c.in-Err.is
 
-pub returns-in-Accepted : goal.returns-in-Accepted
-returns-in-Accepted c = nothing-accepted c.read-verdict.ensures c.in-Accepted.is
+pub returns-in-Ok : goal.returns-in-Ok
+returns-in-Ok c = nothing-accepted c.read.ensures c.in-Ok.is

@@ -1,22 +1,24 @@
 -- `order` meets its contract: the table in the state is tested; then the program is compared with what is gathered.
 use mathlib.Core.Path.{◌∙◌}
+use Rattle.std.proofs.lemmas.Result.{err_from_is_err_and}
 use Rattle.engine.proofs.Tables.{few-types}
 use Rattle.gathering.proofs.Answers.{order-refused, order-none, order-some}
 use Rattle.gathering.proofs.order.Goals as goal
 
-pub returns-then-found-eq0 : goal.returns-then-found-eq0
-returns-then-found-eq0 c =
+pub returns-then-gathered-eq0 : goal.returns-then-gathered-eq0
+returns-then-gathered-eq0 c =
     c.nothing_after.ensures ∙
-    order-none c.find-found.ensures c.accept-opened.ensures c.args.bytes.now c.in-Accepted.is c.if-found-eq0.true
+    order-none c.find-types.ensures c.accept.ensures c.args.bytes.now c.in_ok-accept.was c.if-gathered-eq0.true
 
 pub of_records-requires : goal.of_records-requires
-of_records-requires c = few-types c.find-found.result.types _ _ c.accept-opened.ensures c.in-Accepted.is
+of_records-requires c = few-types _ _ _ c.accept.ensures c.in_ok-accept.was
 
-pub returns-in-Refused : goal.returns-in-Refused
-returns-in-Refused c =
-    order-refused c.find-found.ensures c.accept-opened.ensures c.args.bytes.now _ c.in-Refused.is
+pub returns-in_err-accept : goal.returns-in_err-accept
+returns-in_err-accept c =
+    let given = err_from_is_err_and c.from_residual.result c.from_residual.ensures.1 in
+    rw (given.1, given.2) (order-refused c.find-types.ensures c.accept.ensures c.args.bytes.now _ c.in_err-accept.was)
 
-pub returns-else-found-eq0 : goal.returns-else-found-eq0
-returns-else-found-eq0 c =
+pub returns : goal.returns
+returns c =
     c.of_records.ensures ∙
-    order-some c.find-found.ensures c.accept-opened.ensures c.args.bytes.now c.in-Accepted.is c.if-found-eq0.false
+    order-some c.find-types.ensures c.accept.ensures c.args.bytes.now c.in_ok-accept.was c.if-gathered-eq0.false

@@ -53,17 +53,17 @@ put_label-requires c = omega (arith, c.if-words-at.false)
 pub overflow_add-known : goal.overflow_add-known
 overflow_add-known c = omega (arith, c.loop-head-test.true, c.loop-head.invariant.0.marked.few, c.loop-head.invariant.1)
 
-pub pair_links-spread-requires : goal.pair_links-spread-requires
-pair_links-spread-requires c = let s = c.loop-head.invariant.0 in let same = ap length c.put_label.ensures ∙ length-put c.loop-head.words c.loop-head.at _ in record { recorded = s.left; recorded_2 = s.right; u_bound = s.inside c.loop-head.head c.loop-head-test.true; marked = s.marked; at_in_bounds = (omega (arith, same, c.if-words-at.false), omega (arith, same, s.long)) }
+pub pair_links-requires : goal.pair_links-requires
+pair_links-requires c = let s = c.loop-head.invariant.0 in let same = ap length c.put_label.ensures ∙ length-put c.loop-head.words c.loop-head.at _ in record { recorded = s.left; recorded_2 = s.right; u_bound = s.inside c.loop-head.head c.loop-head-test.true; marked = s.marked; at_in_bounds = (omega (arith, same, c.if-words-at.false), omega (arith, same, s.long)) }
 
-pub shape_of-words-then-count-gt255 : goal.shape_of-words-then-count-gt255
-shape_of-words-then-count-gt255 c = c.pair_links-spread.auto.words ∙ ap length c.put_label.ensures ∙ length-put c.loop-head.words c.loop-head.at _ ∙ c.loop-head.invariant.2 ∙ length-set {A = ℕ} c.args.words.now 1 257
+pub shape_of-words-in_default : goal.shape_of-words-in_default
+shape_of-words-in_default c = c.pair_links.auto.words ∙ ap length c.put_label.ensures ∙ length-put c.loop-head.words c.loop-head.at _ ∙ c.loop-head.invariant.2 ∙ length-set {A = ℕ} c.args.words.now 1 257
 
-pub returns-then-count-gt255 : goal.returns-then-count-gt255
-returns-then-count-gt255 c = let s = c.loop-head.invariant.0 in found-written (sym (too_large (join_in c.args.n c.args.sets.now c.args.cells.now) s.left s.right c.args.out.now (inl (many-pairs s c.loop-head-test.true (c.pair_links-spread.ensures.full c.if-count-gt255.true)))))
+pub returns-in_default : goal.returns-in_default
+returns-in_default c = let s = c.loop-head.invariant.0 in found-written (sym (too_large (join_in c.args.n c.args.sets.now c.args.cells.now) s.left s.right c.args.out.now (inl (many-pairs s c.loop-head-test.true c.in_default.ensures))))
 
 pub overflow_cast-words-in-loop-head : goal.overflow_cast-words-in-loop-head
-overflow_cast-words-in-loop-head c = omega (arith, (c.pair_links-spread.ensures.added (omega (arith, c.if-count-gt255.false))).short, c.loop-head-test.true, c.loop-head.invariant.0.marked.few, c.loop-head.invariant.1)
+overflow_cast-words-in-loop-head c = omega (arith, c.in-Some.ensures.short, c.loop-head-test.true, c.loop-head.invariant.0.marked.few, c.loop-head.invariant.1)
 
 pub overflow_add-words : goal.overflow_add-words
 overflow_add-words c = omega (arith, c.loop-head-test.true, c.loop-head.invariant.0.marked.few)
@@ -72,7 +72,7 @@ pub offset_bounds-words-head : goal.offset_bounds-words-head
 offset_bounds-words-head c = omega (arith, c.loop-head-test.true, c.loop-head.invariant.0.marked.few)
 
 pub bounds-words-head : goal.bounds-words-head
-bounds-words-head c = let same = ap length c.put_label.ensures ∙ length-put c.loop-head.words c.loop-head.at _ in omega (arith, same, (c.pair_links-spread.ensures.added (omega (arith, c.if-count-gt255.false))).long, c.loop-head-test.true, c.loop-head.invariant.0.marked.few, c.loop-head.invariant.0.built.low, c.if-words-at.false)
+bounds-words-head c = let same = ap length c.put_label.ensures ∙ length-put c.loop-head.words c.loop-head.at _ in omega (arith, same, c.in-Some.ensures.long, c.loop-head-test.true, c.loop-head.invariant.0.marked.few, c.loop-head.invariant.0.built.low, c.if-words-at.false)
 
 pub overflow_add-head : goal.overflow_add-head
 overflow_add-head c = omega (arith, c.loop-head-test.true, c.loop-head.invariant.0.marked.few)
@@ -87,16 +87,16 @@ pub overflow_add-head-in-loop-head-2 : goal.overflow_add-head-in-loop-head-2
 overflow_add-head-in-loop-head-2 c = omega (arith, c.loop-head-test.true, c.loop-head.invariant.0.marked.few)
 
 pub shape_of-words-then-head-at : goal.shape_of-words-then-head-at
-shape_of-words-then-head-at c = build-long c.loop-head.invariant.0 c.loop-head-test.true (omega (arith, c.if-words-at.false)) _ refl _ (c.put_label.ensures ∙ ap (put_label c.loop-head.words c.loop-head.at) (c.join-label.ensures ∙ ap₂ (join_ranged (join_in c.args.n c.args.sets.now c.args.cells.now)) c.label_at.ensures c.label_at-in-loop-head.ensures)) _ _ _ _ (c.pair_links-spread.ensures.added (omega (arith, c.if-count-gt255.false))) ∙ c.loop-head.invariant.2 ∙ length-set {A = ℕ} c.args.words.now 1 257
+shape_of-words-then-head-at c = build-long c.loop-head.invariant.0 c.loop-head-test.true (omega (arith, c.if-words-at.false)) _ refl _ (c.put_label.ensures ∙ ap (put_label c.loop-head.words c.loop-head.at) (c.join-label.ensures ∙ ap₂ (join_ranged (join_in c.args.n c.args.sets.now c.args.cells.now)) c.label_at.ensures c.label_at-in-loop-head.ensures)) _ _ _ _ c.in-Some.ensures ∙ c.loop-head.invariant.2 ∙ length-set {A = ℕ} c.args.words.now 1 257
 
 pub returns-then-head-at : goal.returns-then-head-at
-returns-then-head-at c = let s = c.loop-head.invariant.0 in found-written (sym (too_large (join_in c.args.n c.args.sets.now c.args.cells.now) s.left s.right c.args.out.now (inr (many-links (build-step c.loop-head.invariant.0 c.loop-head-test.true (omega (arith, c.if-words-at.false)) _ refl _ (c.put_label.ensures ∙ ap (put_label c.loop-head.words c.loop-head.at) (c.join-label.ensures ∙ ap₂ (join_ranged (join_in c.args.n c.args.sets.now c.args.cells.now)) c.label_at.ensures c.label_at-in-loop-head.ensures)) _ _ _ _ (c.pair_links-spread.ensures.added (omega (arith, c.if-count-gt255.false)))) (omega (arith, c.if-head-at.true))))))
+returns-then-head-at c = let s = c.loop-head.invariant.0 in found-written (sym (too_large (join_in c.args.n c.args.sets.now c.args.cells.now) s.left s.right c.args.out.now (inr (many-links (build-step c.loop-head.invariant.0 c.loop-head-test.true (omega (arith, c.if-words-at.false)) _ refl _ (c.put_label.ensures ∙ ap (put_label c.loop-head.words c.loop-head.at) (c.join-label.ensures ∙ ap₂ (join_ranged (join_in c.args.n c.args.sets.now c.args.cells.now)) c.label_at.ensures c.label_at-in-loop-head.ensures)) _ _ _ _ c.in-Some.ensures) (omega (arith, c.if-head-at.true))))))
 
 pub loop-head-smaller : goal.loop-head-smaller
 loop-head-smaller c = omega (arith, c.loop-head-test.true, c.loop-head.invariant.0.marked.few)
 
 pub loop-head-preserved : goal.loop-head-preserved
-loop-head-preserved c = (build-step c.loop-head.invariant.0 c.loop-head-test.true (omega (arith, c.if-words-at.false)) _ refl _ (c.put_label.ensures ∙ ap (put_label c.loop-head.words c.loop-head.at) (c.join-label.ensures ∙ ap₂ (join_ranged (join_in c.args.n c.args.sets.now c.args.cells.now)) c.label_at.ensures c.label_at-in-loop-head.ensures)) _ _ _ _ (c.pair_links-spread.ensures.added (omega (arith, c.if-count-gt255.false))), omega (arith, c.if-head-at.false), build-long c.loop-head.invariant.0 c.loop-head-test.true (omega (arith, c.if-words-at.false)) _ refl _ (c.put_label.ensures ∙ ap (put_label c.loop-head.words c.loop-head.at) (c.join-label.ensures ∙ ap₂ (join_ranged (join_in c.args.n c.args.sets.now c.args.cells.now)) c.label_at.ensures c.label_at-in-loop-head.ensures)) _ _ _ _ (c.pair_links-spread.ensures.added (omega (arith, c.if-count-gt255.false))) ∙ c.loop-head.invariant.2)
+loop-head-preserved c = (build-step c.loop-head.invariant.0 c.loop-head-test.true (omega (arith, c.if-words-at.false)) _ refl _ (c.put_label.ensures ∙ ap (put_label c.loop-head.words c.loop-head.at) (c.join-label.ensures ∙ ap₂ (join_ranged (join_in c.args.n c.args.sets.now c.args.cells.now)) c.label_at.ensures c.label_at-in-loop-head.ensures)) _ _ _ _ c.in-Some.ensures, omega (arith, c.if-head-at.false), build-long c.loop-head.invariant.0 c.loop-head-test.true (omega (arith, c.if-words-at.false)) _ refl _ (c.put_label.ensures ∙ ap (put_label c.loop-head.words c.loop-head.at) (c.join-label.ensures ∙ ap₂ (join_ranged (join_in c.args.n c.args.sets.now c.args.cells.now)) c.label_at.ensures c.label_at-in-loop-head.ensures)) _ _ _ _ c.in-Some.ensures ∙ c.loop-head.invariant.2)
 
 pub overflow_cast-words-2 : goal.overflow_cast-words-2
 overflow_cast-words-2 c = omega (arith, c.loop-head.invariant.0.marked.few)

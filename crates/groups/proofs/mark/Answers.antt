@@ -2,7 +2,7 @@ use mathlib.Core.Path.{sym, ◌∙◌}
 use Prim.Native.Nat.{ℕ, ◌+◌}
 use native.Mathlib.Omega.{arith}
 use lib.ListN.{length-replicate, get_or-replicate}
-use Rattle.groups.proofs.Marking.{marking-start, marking-all, row-start, row-place, row_within, row_next, row_done}
+use Rattle.groups.proofs.Marking.{marking-start, marking-all, row-start, row-place, row_next, row_done}
 use Rattle.groups.proofs.mark.Goals as goal
 
 pub bounds-s-0 : goal.bounds-s-0
@@ -38,26 +38,17 @@ bounds-s-v-in-loop-v c = omega (arith, (c.loop-v.invariant.1.shaped.node c.loop-
 pub overflow_cast-k : goal.overflow_cast-k
 overflow_cast-k c = omega (arith, c.type_inv.s (c.loop-v.v + 1))
 
-pub overflow_add-k-in-loop-v : goal.overflow_add-k-in-loop-v
-overflow_add-k-in-loop-v c = omega (arith, c.type_inv.s (c.loop-v.v + 1))
-
 pub loop-k-init : goal.loop-k-init
 loop-k-init c = row-start c.loop-v.v c.loop-v.invariant.1 c.loop-v.invariant.2 c.loop-v-test.true
 
 pub mark_place-requires : goal.mark_place-requires
 mark_place-requires c = let row = c.loop-k.invariant in (record { owned = (row.owned, (_, row-place row c.loop-k-test.true)); marking = row.marking })
 
-pub overflow_add-k-in-loop-k : goal.overflow_add-k-in-loop-k
-overflow_add-k-in-loop-k c = omega (arith, row_within c.loop-k.invariant c.loop-k-test.true)
-
 pub loop-k-smaller : goal.loop-k-smaller
 loop-k-smaller c = omega (arith, c.loop-k-test.true)
 
 pub loop-k-preserved : goal.loop-k-preserved
 loop-k-preserved c = row_next c.loop-k.invariant c.loop-k-test.true c.mark_place.ensures
-
-pub overflow_add-v : goal.overflow_add-v
-overflow_add-v c = omega (arith, c.loop-v-test.true, c.loop-v.invariant.1.shaped.few)
 
 pub loop-v-smaller : goal.loop-v-smaller
 loop-v-smaller c = omega (arith, c.loop-v-test.true)

@@ -23,9 +23,6 @@ loop-y-init c = (omega arith, grouping-start c.requires.lying.0 c.requires.unown
 pub cover_row-requires : goal.cover_row-requires
 cover_row-requires c = (record { lying = (c.requires.lying.0, c.loop-y-test.true); grouping = c.loop-y.invariant.1 })
 
-pub overflow_add-y : goal.overflow_add-y
-overflow_add-y c = omega (arith, c.loop-y-test.true, c.requires.lying.0.upper.small)
-
 pub loop-y-smaller : goal.loop-y-smaller
 loop-y-smaller c = omega (arith, c.loop-y-test.true)
 

@@ -64,17 +64,11 @@ offset_bounds-s-k c = omega (arith, here-low (c.requires.owned, c.requires.marki
 pub bounds-s-k : goal.bounds-s-k
 bounds-s-k c = here-inside (c.requires.owned, c.requires.marking)
 
-pub overflow_cast-here : goal.overflow_cast-here
-overflow_cast-here c = omega (arith, here-known (c.requires.owned, c.requires.marking))
-
 pub bounds-rank-here : goal.bounds-rank-here
-bounds-rank-here c = here-known (c.requires.owned, c.requires.marking)
-
-pub overflow_cast-met-2 : goal.overflow_cast-met-2
-overflow_cast-met-2 c = omega (arith, met-known (c.requires.owned, c.requires.marking) c.if-x.false c.if-j.false, here-known (c.requires.owned, c.requires.marking))
+bounds-rank-here c = rw c.feature-here.ensures (here-known (c.requires.owned, c.requires.marking))
 
 pub bounds-rank-met : goal.bounds-rank-met
-bounds-rank-met c = omega (arith, met-known (c.requires.owned, c.requires.marking) c.if-x.false c.if-j.false, here-known (c.requires.owned, c.requires.marking))
+bounds-rank-met c = omega (arith, c.feature-met.ensures, met-known (c.requires.owned, c.requires.marking) c.if-x.false c.if-j.false, here-known (c.requires.owned, c.requires.marking))
 
 pub overflow_cast-lead-then-rank-here : goal.overflow_cast-lead-then-rank-here
 overflow_cast-lead-then-rank-here c = omega (arith, here-low (c.requires.owned, c.requires.marking))
@@ -98,10 +92,10 @@ pub shape_of-marks-then-rank-here : goal.shape_of-marks-then-rank-here
 shape_of-marks-then-rank-here c = simp length-set
 
 pub returns-then-rank-here : goal.returns-then-rank-here
-returns-then-rank-here c = marking-overtakes (c.requires.owned, c.requires.marking) c.if-x.false c.if-j.false c.if-rank-here.true
+returns-then-rank-here c = marking-overtakes (c.requires.owned, c.requires.marking) c.if-x.false c.if-j.false (rw (c.feature-here.ensures, c.feature-met.ensures) at c.if-rank-here.true)
 
 pub bounds-marks-k-2 : goal.bounds-marks-k-2
 bounds-marks-k-2 c = here-marked (c.requires.owned, c.requires.marking)
 
 pub returns : goal.returns
-returns c = marking-follows (c.requires.owned, c.requires.marking) c.if-x.false c.if-j.false c.if-rank-here.false
+returns c = marking-follows (c.requires.owned, c.requires.marking) c.if-x.false c.if-j.false (rw (c.feature-here.ensures, c.feature-met.ensures) at c.if-rank-here.false)

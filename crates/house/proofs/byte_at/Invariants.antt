@@ -12,6 +12,3 @@ stands_at k j = under (8 * (k % 8) + j) (k / 8)
 
 abbrev pub invariant-loop-j : goal.invariant-loop-j
 invariant-loop-j l = (l.j ≤ 8) × (l.word ≡ word_of l.j (stands_at l.k))
-
-abbrev pub decreases-loop-j : goal.decreases-loop-j
-decreases-loop-j l = 8 - l.j

@@ -9,6 +9,3 @@ use Rattle.house.proofs.fill_table.Given as goal
 
 abbrev pub invariant-loop-k : goal.invariant-loop-k
 invariant-loop-k l = (l.k ≤ 512) × (512 ≤ length l.initial.out) × (length l.out ≡ length l.initial.out) × (sets l.initial.out 0 house_table ≡ left l.out l.k)
-
-abbrev pub decreases-loop-k : goal.decreases-loop-k
-decreases-loop-k l = 512 - l.k

@@ -3,4 +3,4 @@ use Rattle.link_orders.proofs.LinkOrders.{number-order}
 use Rattle.link_orders.proofs.by_number.Goals as goal
 
 pub returns : goal.returns
-returns c = number-order _
+returns c = number-order

@@ -10,20 +10,11 @@ loop-i-init c = placed-start c.requires (length-replicate {A = ℕ} 64 0)
 pub bounds-list-i : goal.bounds-list-i
 bounds-list-i c = c.loop-i-test.true
 
-pub overflow_cast-f : goal.overflow_cast-f
-overflow_cast-f c = omega (arith, c.loop-i.invariant.order.low c.loop-i.i c.loop-i-test.true)
-
 pub overflow_cast-at : goal.overflow_cast-at
 overflow_cast-at c = omega (arith, c.loop-i-test.true)
 
-pub bounds-at-f : goal.bounds-at-f
-bounds-at-f c = c.loop-i.invariant.order.low c.loop-i.i c.loop-i-test.true
-
-pub overflow_add-i : goal.overflow_add-i
-overflow_add-i c = omega (arith, c.loop-i-test.true)
-
-pub loop-i-smaller : goal.loop-i-smaller
-loop-i-smaller c = omega (arith, c.loop-i-test.true)
+pub bounds-at-feature : goal.bounds-at-feature
+bounds-at-feature c = c.loop-i.invariant.order.low c.loop-i.i c.loop-i-test.true
 
 pub loop-i-preserved : goal.loop-i-preserved
 loop-i-preserved c = placed-next c.loop-i.invariant c.loop-i-test.true

@@ -13,8 +13,8 @@ returns-then-not-is_count c =
 pub write-requires : goal.write-requires
 write-requires c =
     first-written 2 c.args.features c.args.out.now (omega arith) (omega arith)
-    (counts c.args.features c.is_count.ensures (ap not c.if-not-is_count.false)) c.from_links0-d.result
-    c.from_links0-d.ensures
+    (counts c.args.features c.is_count.ensures (ap not c.if-not-is_count.false)) c.from_root_links-numbers.result
+    c.from_root_links-numbers.ensures
 
 pub returns : goal.returns
 returns c =
@@ -22,5 +22,5 @@ returns c =
     (ap not c.if-not-is_count.false) c.args.out.now
     (c.write.ensures ∙ first-continued n c.args.features c.args.out.now low small
     (counts c.args.features c.is_count.ensures
-    (ap not c.if-not-is_count.false)) c.from_links0-d.result
-    c.from_links0-d.ensures)
+    (ap not c.if-not-is_count.false)) c.from_root_links-numbers.result
+    c.from_root_links-numbers.ensures)

@@ -7,14 +7,14 @@ returns-then-bytes-eq0 c =
     over_none c.args.n c.args.features c.args.bytes.now c.args.out.now
     c.if-bytes-eq0.true (c.first.ensures c.args.n c.requires.0 c.requires.1)
 
-pub returns-in-Refused : goal.returns-in-Refused
-returns-in-Refused c =
+pub returns-in-Err : goal.returns-in-Err
+returns-in-Err c =
     over-refused c.args.n c.args.features c.args.bytes.now c.args.out.now
-    c.read-verdict.ensures c.if-bytes-eq0.false _ c.in-Refused.is
+    c.read.ensures c.if-bytes-eq0.false _ c.in-Err.is
 
-pub returns-in-Accepted : goal.returns-in-Accepted
-returns-in-Accepted c =
+pub returns : goal.returns
+returns c =
     over-accepted c.args.n c.args.features c.args.bytes.now c.args.out.now
-    c.read-verdict.ensures
-    c.if-bytes-eq0.false c.in-Accepted.is
+    c.read.ensures
+    c.if-bytes-eq0.false c.in_default.is
     c.go_on.ensures

@@ -1,11 +1,7 @@
 -- `copy_rows` meets its contract. The loop's invariant: the rows of the first i nodes visited are built.
-use Prim.Native.Nat.{◌-◌}
 use lib.ListN.{length}
 use Rattle.numbering.proofs.CopiedRows.{Copying}
 use Rattle.numbering.proofs.copy_rows.Given as goal
 
 abbrev pub invariant-loop-i : goal.invariant-loop-i
 invariant-loop-i l = Copying l.graph l.numbers l.visited l.count (length l.initial.new) l.new l.at l.i
-
-abbrev pub decreases-loop-i : goal.decreases-loop-i
-decreases-loop-i l = l.count - l.i

@@ -2,19 +2,11 @@
 use Rattle.pairs.proofs.Readings.{reads-first-refused, reads-second-refused, reads-accepted}
 use Rattle.pairs.proofs.read_both.Goals as goal
 
-pub returns-in-Refused : goal.returns-in-Refused
-returns-in-Refused c =
-    let said = c.read_one-one.ensures in
-    reads-first-refused said c.in-Refused.is
+pub returns-in-Err : goal.returns-in-Err
+returns-in-Err c = reads-first-refused c.read_one.ensures c.in-Err.is
 
-pub returns-in-Refused-other : goal.returns-in-Refused-other
-returns-in-Refused-other c =
-    let first = c.read_one-one.ensures in
-    let second = c.read_one-other.ensures in
-    reads-second-refused first c.in-Accepted.is second c.in-Refused-other.is
+pub returns-in-Err-read_one : goal.returns-in-Err-read_one
+returns-in-Err-read_one c = reads-second-refused c.read_one.ensures c.in_default.is c.read_one-2.ensures c.in-Err-read_one.is
 
-pub returns-in-Accepted-other : goal.returns-in-Accepted-other
-returns-in-Accepted-other c =
-    let first = c.read_one-one.ensures in
-    let second = c.read_one-other.ensures in
-    reads-accepted first c.in-Accepted.is second c.in-Accepted-other.is
+pub returns : goal.returns
+returns c = reads-accepted c.read_one.ensures c.in_default.is c.read_one-2.ensures c.in_default-read_one.is

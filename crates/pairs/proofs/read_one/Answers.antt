@@ -1,20 +1,19 @@
 -- `read_one` meets its contract: a record is read without a list where the list is empty, else with it.
-use borrow.Author.Tests.{ne_eqb}
+use mathlib.Core.Path.{sym, ◌∙◌}
+use borrow.Author.Tests.{eqb-true, eqb-false}
 use Rattle.pairs.proofs.Readings.{tells-plain, tells-listed}
 use Rattle.pairs.proofs.read_one.Goals as goal
 
-pub returns-then-list-eq0 : goal.returns-then-list-eq0
-returns-then-list-eq0 c =
+pub returns-then-is_empty : goal.returns-then-is_empty
+returns-then-is_empty c =
     let a = c.args in
-    let said = c.read.ensures in
-    tells-plain a.n a.table.now a.list.now a.bytes.now c.if-list-eq0.true said
+    tells-plain a.n a.table.now a.list.now a.bytes.now (eqb-true _ 0 (sym c.is_empty.ensures ∙ c.if-is_empty.true)) c.read.ensures
 
 pub read-requires-2 : goal.read-requires-2
 read-requires-2 c =
-    (record { n_bound = (c.requires.0, c.requires.1 (ne_eqb _ 0 c.if-list-eq0.false)); roomy = c.requires.2 })
+    (record { n_bound = (c.requires.0, c.requires.1 (sym c.is_empty.ensures ∙ c.if-is_empty.false)); roomy = c.requires.2 })
 
 pub returns : goal.returns
 returns c =
     let a = c.args in
-    let said = c.read-2.ensures in
-    tells-listed a.n a.table.now a.list.now a.bytes.now c.if-list-eq0.false said
+    tells-listed a.n a.table.now a.list.now a.bytes.now (eqb-false _ 0 (sym c.is_empty.ensures ∙ c.if-is_empty.false)) c.read-2.ensures

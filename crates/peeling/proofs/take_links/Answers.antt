@@ -1,69 +1,105 @@
 use mathlib.Core.Path.{ap}
-use Prim.Native.Nat.{ℕ, ◌+◌}
+use Prim.Native.Nat.{ℕ}
+use native.Mathlib.Nat.{add-zero, add_assoc}
 use native.Mathlib.Omega.{arith}
 use lib.ListN.{get_or}
-use Rattle.peeling.proofs.Counting.{due-listed, row-start, row-place, row_inside_lem, still-entered, row_room, row_stays, row-joins, row_done}
+use Rattle.layout.proofs.NodeLinks.{links-long, links-inside, links-target}
+use Rattle.peeling.proofs.Counting.{row-start, row_inside_lem, still-entered, row_room, row_stays, row-joins, row_done}
 use Rattle.peeling.proofs.take_links.Goals as goal
 use Rattle.peeling.proofs.take_links.Goals.{then-left-eq0, else-left-eq0}
 
-pub bounds-graph-v : goal.bounds-graph-v
-bounds-graph-v c = due-listed c.requires
+pub links-link-items-requires : goal.links-link-items-requires
+links-link-items-requires c = c.requires.sound.shaped.node c.args.v c.requires.inside
 
-pub overflow_cast-end : goal.overflow_cast-end
-overflow_cast-end c = omega (arith, c.type_inv.graph (c.args.v + 2))
-
-pub links_from-k-requires : goal.links_from-k-requires
-links_from-k-requires c = omega (arith, due-listed c.requires)
-
-pub loop-k-init : goal.loop-k-init
-loop-k-init c = rw c.links_from-k.ensures (row-start c.requires)
-
-pub offset_bounds-graph-k : goal.offset_bounds-graph-k
-offset_bounds-graph-k c = omega (arith, c.type_inv.graph (c.args.v + 2))
-
-pub bounds-graph-k : goal.bounds-graph-k
-bounds-graph-k c = row-place c.loop-k.invariant c.loop-k-test.true
+pub loop-link-init : goal.loop-link-init
+loop-link-init c = rw add-zero (row-start c.requires)
 
 pub offset_bounds-incoming-w : goal.offset_bounds-incoming-w
-offset_bounds-incoming-w c = omega (arith, c.target-w.ensures, row_inside_lem c.loop-k.invariant c.loop-k-test.true, c.loop-k.invariant.due.small)
+offset_bounds-incoming-w c =
+    let node = c.requires.sound.shaped.node c.args.v c.requires.inside in
+    let i = c.loop-link.link-index in
+    let is = links-target node c.links-link-items.ensures i c.loop-link-test.true c.target-w.ensures in
+    let inside = links-inside node c.links-link-items.ensures i c.loop-link-test.true in
+    omega (arith, is, row_inside_lem c.loop-link.invariant inside, c.loop-link.invariant.due.small)
 
 pub bounds-incoming-w : goal.bounds-incoming-w
-bounds-incoming-w c = omega (arith, c.target-w.ensures, row_inside_lem c.loop-k.invariant c.loop-k-test.true, c.loop-k.invariant.due.small)
+bounds-incoming-w c =
+    let node = c.requires.sound.shaped.node c.args.v c.requires.inside in
+    let i = c.loop-link.link-index in
+    let is = links-target node c.links-link-items.ensures i c.loop-link-test.true c.target-w.ensures in
+    let inside = links-inside node c.links-link-items.ensures i c.loop-link-test.true in
+    omega (arith, is, row_inside_lem c.loop-link.invariant inside, c.loop-link.invariant.due.small)
 
 pub overflow_sub-left : goal.overflow_sub-left
 overflow_sub-left c =
-    omega (arith, ap (λ (w : ℕ). get_or c.loop-k.incoming w 0) c.target-w.ensures, still-entered c.loop-k.invariant c.loop-k-test.true)
+    let node = c.requires.sound.shaped.node c.args.v c.requires.inside in
+    let i = c.loop-link.link-index in
+    let is = links-target node c.links-link-items.ensures i c.loop-link-test.true c.target-w.ensures in
+    let inside = links-inside node c.links-link-items.ensures i c.loop-link-test.true in
+    omega (arith, ap (λ (w : ℕ). get_or c.loop-link.incoming w 0) is, still-entered c.loop-link.invariant inside)
 
-pub offset_bounds-incoming-w-in-loop-k : goal.offset_bounds-incoming-w-in-loop-k
-offset_bounds-incoming-w-in-loop-k c = omega (arith, c.target-w.ensures, row_inside_lem c.loop-k.invariant c.loop-k-test.true, c.loop-k.invariant.due.small)
+pub offset_bounds-incoming-w-in-loop-link : goal.offset_bounds-incoming-w-in-loop-link
+offset_bounds-incoming-w-in-loop-link c =
+    let node = c.requires.sound.shaped.node c.args.v c.requires.inside in
+    let i = c.loop-link.link-index in
+    let is = links-target node c.links-link-items.ensures i c.loop-link-test.true c.target-w.ensures in
+    let inside = links-inside node c.links-link-items.ensures i c.loop-link-test.true in
+    omega (arith, is, row_inside_lem c.loop-link.invariant inside, c.loop-link.invariant.due.small)
 
-pub bounds-incoming-w-in-loop-k : goal.bounds-incoming-w-in-loop-k
-bounds-incoming-w-in-loop-k c = omega (arith, c.target-w.ensures, row_inside_lem c.loop-k.invariant c.loop-k-test.true, c.loop-k.invariant.due.small)
+pub bounds-incoming-w-in-loop-link : goal.bounds-incoming-w-in-loop-link
+bounds-incoming-w-in-loop-link c =
+    let node = c.requires.sound.shaped.node c.args.v c.requires.inside in
+    let i = c.loop-link.link-index in
+    let is = links-target node c.links-link-items.ensures i c.loop-link-test.true c.target-w.ensures in
+    let inside = links-inside node c.links-link-items.ensures i c.loop-link-test.true in
+    omega (arith, is, row_inside_lem c.loop-link.invariant inside, c.loop-link.invariant.due.small)
 
 pub overflow_cast-queue : goal.overflow_cast-queue
-overflow_cast-queue c = omega (arith, c.target-w.ensures, row_inside_lem c.loop-k.invariant c.loop-k-test.true, c.loop-k.invariant.due.small)
+overflow_cast-queue c =
+    let node = c.requires.sound.shaped.node c.args.v c.requires.inside in
+    let i = c.loop-link.link-index in
+    let is = links-target node c.links-link-items.ensures i c.loop-link-test.true c.target-w.ensures in
+    let inside = links-inside node c.links-link-items.ensures i c.loop-link-test.true in
+    omega (arith, is, row_inside_lem c.loop-link.invariant inside, c.loop-link.invariant.due.small)
 
 pub offset_bounds-queue-count : goal.offset_bounds-queue-count
-offset_bounds-queue-count c = omega (arith, row_room c.loop-k.invariant c.loop-k-test.true (rw c.target-w.ensures at c.if-left-eq0.true))
+offset_bounds-queue-count c =
+    let node = c.requires.sound.shaped.node c.args.v c.requires.inside in
+    let i = c.loop-link.link-index in
+    let is = links-target node c.links-link-items.ensures i c.loop-link-test.true c.target-w.ensures in
+    let inside = links-inside node c.links-link-items.ensures i c.loop-link-test.true in
+    omega (arith, row_room c.loop-link.invariant inside (rw is at c.if-left-eq0.true))
 
 pub bounds-queue-count : goal.bounds-queue-count
-bounds-queue-count c = omega (arith, row_room c.loop-k.invariant c.loop-k-test.true (rw c.target-w.ensures at c.if-left-eq0.true))
+bounds-queue-count c =
+    let node = c.requires.sound.shaped.node c.args.v c.requires.inside in
+    let i = c.loop-link.link-index in
+    let is = links-target node c.links-link-items.ensures i c.loop-link-test.true c.target-w.ensures in
+    let inside = links-inside node c.links-link-items.ensures i c.loop-link-test.true in
+    omega (arith, row_room c.loop-link.invariant inside (rw is at c.if-left-eq0.true))
 
 pub overflow_add-count : goal.overflow_add-count
-overflow_add-count c = omega (arith, row_room c.loop-k.invariant c.loop-k-test.true (rw c.target-w.ensures at c.if-left-eq0.true))
+overflow_add-count c =
+    let node = c.requires.sound.shaped.node c.args.v c.requires.inside in
+    let i = c.loop-link.link-index in
+    let is = links-target node c.links-link-items.ensures i c.loop-link-test.true c.target-w.ensures in
+    let inside = links-inside node c.links-link-items.ensures i c.loop-link-test.true in
+    omega (arith, row_room c.loop-link.invariant inside (rw is at c.if-left-eq0.true))
 
-pub overflow_add-k : goal.overflow_add-k
-overflow_add-k c = omega (arith, c.type_inv.graph (c.args.v + 2))
-
-pub loop-k-preserved : goal.loop-k-preserved
-loop-k-preserved c =
-    let is = c.target-w.ensures in
+pub loop-link-preserved : goal.loop-link-preserved
+loop-link-preserved c =
+    let node = c.requires.sound.shaped.node c.args.v c.requires.inside in
+    let i = c.loop-link.link-index in
+    let is = links-target node c.links-link-items.ensures i c.loop-link-test.true c.target-w.ensures in
+    let inside = links-inside node c.links-link-items.ensures i c.loop-link-test.true in
     elim c.if-left-eq0.branch [
       | then-left-eq0 w ↦
-          rw (w.queue-is, w.count-is, is) (row-joins c.loop-k.invariant c.loop-k-test.true (rw is at w.if-left-eq0.true))
+          rw (w.queue-is, w.count-is, is, ← add_assoc) (row-joins c.loop-link.invariant inside (rw is at w.if-left-eq0.true))
       | else-left-eq0 w ↦
-          rw (w.queue-is, w.count-is, is) (row_stays c.loop-k.invariant c.loop-k-test.true (rw is at w.if-left-eq0.false))
+          rw (w.queue-is, w.count-is, is, ← add_assoc) (row_stays c.loop-link.invariant inside (rw is at w.if-left-eq0.false))
     ]
 
 pub returns : goal.returns
-returns c = row_done c.loop-k.invariant c.loop-k-test.false
+returns c =
+    let node = c.requires.sound.shaped.node c.args.v c.requires.inside in
+    row_done c.loop-link.invariant (omega (arith, links-long node c.links-link-items.ensures, c.loop-link-test.false))

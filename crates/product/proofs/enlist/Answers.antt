@@ -4,19 +4,10 @@ use native.Mathlib.Omega.{arith}
 use Rattle.product.proofs.enlist.Goals as goal
 
 pub returns-then-mark : goal.returns-then-mark
-returns-then-mark c =
-    let pre = c.requires in
-    record { listed = λ h. enlist-old _ _ _ _ pre.marked pre.pair_bound c.if-mark.true; full = λ h. absurd (omega (arith, pre.marked.few)) }
+returns-then-mark c = enlist-old _ _ _ _ c.requires.marked c.requires.pair_bound c.if-mark.true
 
 pub returns-then-count-gt254 : goal.returns-then-count-gt254
-returns-then-count-gt254 c =
-    let pre = c.requires in
-    record { listed = λ h. absurd (omega arith); full = λ h. (omega (arith, pre.marked.few, c.if-count-gt254.true), c.if-mark.false) }
+returns-then-count-gt254 c = (omega (arith, c.requires.marked.few, c.if-count-gt254.true), c.if-mark.false)
 
 pub returns : goal.returns
-returns c =
-    let pre = c.requires in
-    record {
-      listed = λ h. enlist-new _ _ _ _ pre.marked pre.pair_bound c.if-mark.false (omega (arith, c.if-count-gt254.false));
-      full = λ h. absurd (omega (arith, c.if-count-gt254.false));
-    }
+returns c = enlist-new _ _ _ _ c.requires.marked c.requires.pair_bound c.if-mark.false (omega (arith, c.if-count-gt254.false))

@@ -59,57 +59,36 @@ bounds-b-j c = omega (arith, c.if-b_end-j.false, c.loop-i.invariant.1, (merge-en
 pub overflow_add-i-then-f-h : goal.overflow_add-i-then-f-h
 overflow_add-i-then-f-h c = omega (arith, c.loop-i-test.true, c.loop-i.invariant.0, c.loop-i.invariant.2.begun.left_end)
 
-pub loop-i-smaller-then-f-h : goal.loop-i-smaller-then-f-h
-loop-i-smaller-then-f-h c = omega (arith, c.loop-i-test.true)
-
 pub loop-i-preserved-then-f-h : goal.loop-i-preserved-then-f-h
-loop-i-preserved-then-f-h c = (c.loop-i.invariant.0, c.loop-i.invariant.1, merge-left c.loop-i.invariant.2 (omega (arith, c.loop-i-test.true, c.loop-i.invariant.0)) (omega (arith, c.if-b_end-j.false, c.loop-i.invariant.1)) c.if-f-h.true)
+loop-i-preserved-then-f-h c = (c.loop-i.invariant.0, c.loop-i.invariant.1, merge-left c.loop-i.invariant.2 (omega (arith, c.loop-i-test.true, c.loop-i.invariant.0)) (omega (arith, c.if-b_end-j.false, c.loop-i.invariant.1)) (rw (c.feature-f.ensures, c.feature-h.ensures) at c.if-f-h.true))
 
 pub overflow_add-j-then-h-f : goal.overflow_add-j-then-h-f
 overflow_add-j-then-h-f c = omega (arith, c.if-b_end-j.false, c.loop-i.invariant.1, c.loop-i.invariant.2.begun.right_end)
 
-pub loop-i-smaller-then-h-f : goal.loop-i-smaller-then-h-f
-loop-i-smaller-then-h-f c = omega (arith, c.if-b_end-j.false)
-
 pub loop-i-preserved-then-h-f : goal.loop-i-preserved-then-h-f
-loop-i-preserved-then-h-f c = (c.loop-i.invariant.0, c.loop-i.invariant.1, merge-right c.loop-i.invariant.2 (omega (arith, c.loop-i-test.true, c.loop-i.invariant.0)) (omega (arith, c.if-b_end-j.false, c.loop-i.invariant.1)) c.if-h-f.true)
+loop-i-preserved-then-h-f c = (c.loop-i.invariant.0, c.loop-i.invariant.1, merge-right c.loop-i.invariant.2 (omega (arith, c.loop-i-test.true, c.loop-i.invariant.0)) (omega (arith, c.if-b_end-j.false, c.loop-i.invariant.1)) (rw (c.feature-f.ensures, c.feature-h.ensures) at c.if-h-f.true))
 
-pub overflow_cast-pair : goal.overflow_cast-pair
-overflow_cast-pair c = omega arith
-
-pub overflow_mul-pair : goal.overflow_mul-pair
-overflow_mul-pair c = omega arith
-
-pub overflow_cast-pair-else-h-f : goal.overflow_cast-pair-else-h-f
-overflow_cast-pair-else-h-f c = omega arith
-
-pub overflow_add-pair : goal.overflow_add-pair
-overflow_add-pair c = omega arith
-
-pub enlist-count-requires : goal.enlist-count-requires
-enlist-count-requires c =
+pub enlist-requires : goal.enlist-requires
+enlist-requires c =
     record {
       marked = c.loop-i.invariant.2.added.after;
-      pair_bound = omega (arith, merge-nodes c.loop-i.invariant.2 (omega (arith, c.loop-i-test.true, c.loop-i.invariant.0)) (omega (arith, c.if-b_end-j.false, c.loop-i.invariant.1)));
+      pair_bound = omega (arith, c.target.ensures, c.target-else-h-f.ensures, merge-nodes c.loop-i.invariant.2 (omega (arith, c.loop-i-test.true, c.loop-i.invariant.0)) (omega (arith, c.if-b_end-j.false, c.loop-i.invariant.1)));
     }
 
-pub shape_of-words-then-count-gt255 : goal.shape_of-words-then-count-gt255
-shape_of-words-then-count-gt255 c = c.loop-i.invariant.2.added.long
-
-pub returns-then-count-gt255 : goal.returns-then-count-gt255
-returns-then-count-gt255 c = let (given, free) = c.enlist-count.ensures.full c.if-count-gt255.true in record { added = λ h. absurd (omega (arith, c.if-count-gt255.true)); full = λ h. merge-full c.loop-i.invariant.2 (omega (arith, c.loop-i-test.true, c.loop-i.invariant.0)) (omega (arith, c.if-b_end-j.false, c.loop-i.invariant.1)) (omega (arith, c.if-f-h.false, c.if-h-f.false)) given free }
+pub returns-in_err-count : goal.returns-in_err-count
+returns-in_err-count c =
+    let (given, free) = rw (c.target.ensures, c.target-else-h-f.ensures) at c.in_err-count.ensures in
+    rw c.from_residual.ensures
+    (merge-full c.loop-i.invariant.2 (omega (arith, c.loop-i-test.true, c.loop-i.invariant.0)) (omega (arith, c.if-b_end-j.false, c.loop-i.invariant.1)) (omega (arith, c.feature-f.ensures, c.feature-h.ensures, c.if-f-h.false, c.if-h-f.false)) given free)
 
 pub bounds-marks-pair : goal.bounds-marks-pair
-bounds-marks-pair c = omega (arith, merge-nodes c.loop-i.invariant.2 (omega (arith, c.loop-i-test.true, c.loop-i.invariant.0)) (omega (arith, c.if-b_end-j.false, c.loop-i.invariant.1)))
+bounds-marks-pair c = omega (arith, c.target.ensures, c.target-else-h-f.ensures, merge-nodes c.loop-i.invariant.2 (omega (arith, c.loop-i-test.true, c.loop-i.invariant.0)) (omega (arith, c.if-b_end-j.false, c.loop-i.invariant.1)))
 
 pub overflow_cast-number : goal.overflow_cast-number
-overflow_cast-number c = let listed = c.enlist-count.ensures.listed (omega (arith, c.if-count-gt255.false)) in omega (arith, listed.numbered, listed.after.few)
+overflow_cast-number c = let listed = c.in_ok-count.ensures in omega (arith, listed.numbered, listed.after.few)
 
 pub link-requires : goal.link-requires
-link-requires c = let listed = c.enlist-count.ensures.listed (omega (arith, c.if-count-gt255.false)) in (omega (arith, c.type_inv.a c.loop-i.i), omega (arith, listed.numbered, listed.after.few))
-
-pub offset_bounds-words-at : goal.offset_bounds-words-at
-offset_bounds-words-at c = omega (arith, merge-room c.loop-i.invariant.2 (omega (arith, c.loop-i-test.true, c.loop-i.invariant.0)) (omega (arith, c.if-b_end-j.false, c.loop-i.invariant.1)))
+link-requires c = let listed = c.in_ok-count.ensures in (omega (arith, c.feature-f.ensures, c.type_inv.a c.loop-i.i), omega (arith, listed.numbered, listed.after.few))
 
 pub bounds-words-at : goal.bounds-words-at
 bounds-words-at c = omega (arith, merge-room c.loop-i.invariant.2 (omega (arith, c.loop-i-test.true, c.loop-i.invariant.0)) (omega (arith, c.if-b_end-j.false, c.loop-i.invariant.1)), c.loop-i.invariant.2.added.long)
@@ -123,11 +102,13 @@ overflow_add-i-else-h-f c = omega (arith, c.loop-i-test.true, c.loop-i.invariant
 pub overflow_add-j-else-h-f : goal.overflow_add-j-else-h-f
 overflow_add-j-else-h-f c = omega (arith, c.if-b_end-j.false, c.loop-i.invariant.1, c.loop-i.invariant.2.begun.right_end)
 
-pub loop-i-smaller : goal.loop-i-smaller
-loop-i-smaller c = omega (arith, c.loop-i-test.true, c.if-b_end-j.false)
-
 pub loop-i-preserved : goal.loop-i-preserved
-loop-i-preserved c = (c.loop-i.invariant.0, c.loop-i.invariant.1, merge-both c.loop-i.invariant.2 (omega (arith, c.loop-i-test.true, c.loop-i.invariant.0)) (omega (arith, c.if-b_end-j.false, c.loop-i.invariant.1)) (omega (arith, c.if-f-h.false, c.if-h-f.false)) _ _ _ (c.enlist-count.ensures.listed (omega (arith, c.if-count-gt255.false))) _ c.link.ensures)
+loop-i-preserved c = (
+  c.loop-i.invariant.0,
+  c.loop-i.invariant.1,
+  merge-both c.loop-i.invariant.2 (omega (arith, c.loop-i-test.true, c.loop-i.invariant.0)) (omega (arith, c.if-b_end-j.false, c.loop-i.invariant.1)) (omega (arith, c.feature-f.ensures, c.feature-h.ensures, c.if-f-h.false, c.if-h-f.false)) _ _ _ (rw (c.target.ensures, c.target-else-h-f.ensures) at c.in_ok-count.ensures) _
+      (rw (c.feature-f.ensures, c.target.ensures, c.target-else-h-f.ensures) at c.link.ensures),
+)
 
 pub shape_of-words : goal.shape_of-words
 shape_of-words c = c.loop-i.invariant.2.added.long

@@ -57,9 +57,6 @@ bounds-words-v-2 c = omega (arith, (c.requires.markable.1.sound.shaped.node c.ar
 pub overflow_cast-k : goal.overflow_cast-k
 overflow_cast-k c = omega (arith, c.type_inv.words (c.args.v + 1))
 
-pub overflow_add-k-2 : goal.overflow_add-k-2
-overflow_add-k-2 c = omega (arith, c.type_inv.words (c.args.v + 1))
-
 pub loop-k-init : goal.loop-k-init
 loop-k-init c = explain-start c.requires.markable.0 c.requires.markable.1 c.requires.markable.2 c.requires.reasons_len
 
@@ -72,36 +69,27 @@ bounds-words-k c = explain-inside c.loop-k.invariant c.loop-k-test.true
 pub seek-j-requires : goal.seek-j-requires
 seek-j-requires c =
     let turn = c.loop-k.invariant in
-    (turn.s-high, (turn.ready.sound.shaped.node _ turn.inside).ended, explain-known turn c.loop-k-test.true)
+    (turn.s-high, (turn.ready.sound.shaped.node _ turn.inside).ended, rw c.feature.ensures (explain-known turn c.loop-k-test.true))
 
 pub offset_bounds-s-j : goal.offset_bounds-s-j
-offset_bounds-s-j c = omega (arith, (explain-place c.loop-k.invariant c.loop-k-test.true c.seek-j.ensures).few)
+offset_bounds-s-j c = omega (arith, (explain-place c.loop-k.invariant c.loop-k-test.true (rw c.feature.ensures at c.seek-j.ensures)).few)
 
 pub bounds-s-j : goal.bounds-s-j
-bounds-s-j c = (explain-place c.loop-k.invariant c.loop-k-test.true c.seek-j.ensures).within
-
-pub overflow_cast-target : goal.overflow_cast-target
-overflow_cast-target c = omega (arith, (explain-place c.loop-k.invariant c.loop-k-test.true c.seek-j.ensures).target)
+bounds-s-j c = (explain-place c.loop-k.invariant c.loop-k-test.true (rw c.feature.ensures at c.seek-j.ensures)).within
 
 pub bounds-marks-j : goal.bounds-marks-j
-bounds-marks-j c = omega (arith, (explain-place c.loop-k.invariant c.loop-k-test.true c.seek-j.ensures).within, c.loop-k.invariant.ready.marks-long)
+bounds-marks-j c = omega (arith, (explain-place c.loop-k.invariant c.loop-k-test.true (rw c.feature.ensures at c.seek-j.ensures)).within, c.loop-k.invariant.ready.marks-long)
 
 pub bounds-meeting-target : goal.bounds-meeting-target
-bounds-meeting-target c = (explain-place c.loop-k.invariant c.loop-k-test.true c.seek-j.ensures).target
+bounds-meeting-target c = rw c.target-target.ensures (explain-place c.loop-k.invariant c.loop-k-test.true (rw c.feature.ensures at c.seek-j.ensures)).target
 
 pub bounds-reasons-k : goal.bounds-reasons-k
 bounds-reasons-k c = explain-room c.loop-k.invariant c.loop-k-test.true
 
-pub overflow_add-k-in-loop-k : goal.overflow_add-k-in-loop-k
-overflow_add-k-in-loop-k c = omega (arith, explain-room c.loop-k.invariant c.loop-k-test.true)
-
-pub loop-k-smaller : goal.loop-k-smaller
-loop-k-smaller c = omega (arith, c.loop-k-test.true)
-
 pub loop-k-preserved : goal.loop-k-preserved
 loop-k-preserved c =
     let turn = c.loop-k in
-    explain-more turn.invariant c.loop-k-test.true c.seek-j.ensures (ap (set turn.reasons turn.k) c.reason_of.ensures)
+    explain-more turn.invariant c.loop-k-test.true (rw c.feature.ensures at c.seek-j.ensures) (rw c.target-target.ensures at (ap (set turn.reasons turn.k) c.reason_of.ensures))
 
 pub returns : goal.returns
 returns c = explain-done c.loop-k.invariant c.loop-k-test.false

@@ -1,14 +1,15 @@
--- `reason_of` meets its contract, by its two tests.
+-- `reason_of` meets its contract, by its arms.
 use mathlib.Core.Path.{sym}
-use native.Mathlib.Omega.{arith}
+use Rattle.graphs.proofs.Search.{true-false}
 use Rattle.reasons.proofs.Explaining.{reason-one, reason-two, reason-three}
 use Rattle.reasons.proofs.reason_of.Goals as goal
 
-pub returns-then-mark-eq-BARE : goal.returns-then-mark-eq-BARE
-returns-then-mark-eq-BARE c = sym (reason-one c.args.mark c.args.meeting (omega (arith, c.if-mark-eq-BARE.true)))
+pub returns-in-Bare-default : goal.returns-in-Bare-default
+returns-in-Bare-default c = sym (reason-one _ _ c.in-Bare-default.is-0)
 
-pub returns-then-meeting-eq1 : goal.returns-then-meeting-eq1
-returns-then-meeting-eq1 c = sym (reason-two c.args.mark c.args.meeting (λ e. omega (arith, c.if-mark-eq-BARE.false)) (omega (arith, c.if-meeting-eq1.true)))
+pub returns-in_default-true : goal.returns-in_default-true
+returns-in_default-true c = sym (reason-two _ _ c.in_default-true.not-Bare-0 c.in_default-true.is-1)
 
-pub returns : goal.returns
-returns c = sym (reason-three c.args.mark c.args.meeting (λ e. omega (arith, c.if-mark-eq-BARE.false)) (λ e. omega (arith, c.if-meeting-eq1.false)))
+pub returns-in_default-false : goal.returns-in_default-false
+returns-in_default-false c =
+    sym (reason-three _ _ c.in_default-false.not-Bare-0 (λ e. true-false e c.in_default-false.is-1))

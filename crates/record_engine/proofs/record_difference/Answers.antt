@@ -3,4 +3,4 @@ use Rattle.record_engine.proofs.Codes.{codes}
 use Rattle.record_engine.proofs.record_difference.Goals as goal
 
 pub returns : goal.returns
-returns c = codes c.code.ensures c.difference.ensures
+returns c = codes c.measured.ensures c.difference.ensures

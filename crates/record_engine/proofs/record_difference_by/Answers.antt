@@ -3,4 +3,4 @@ use Rattle.record_engine.proofs.Codes.{codes}
 use Rattle.record_engine.proofs.record_difference_by.Goals as goal
 
 pub returns : goal.returns
-returns c = codes c.code.ensures c.difference_by.ensures
+returns c = codes c.measured.ensures c.difference_by.ensures

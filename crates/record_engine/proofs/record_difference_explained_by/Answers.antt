@@ -3,4 +3,4 @@ use Rattle.record_engine.proofs.Codes.{codes-both}
 use Rattle.record_engine.proofs.record_difference_explained_by.Goals as goal
 
 pub returns : goal.returns
-returns c = codes-both c.code.ensures c.difference_explained_by.ensures
+returns c = codes-both c.measured.ensures c.difference_explained_by.ensures

@@ -3,4 +3,4 @@ use Rattle.record_engine.proofs.Codes.{codes}
 use Rattle.record_engine.proofs.record_gathering_finish.Goals as goal
 
 pub returns : goal.returns
-returns c = codes c.code.ensures c.finish.ensures
+returns c = codes c.measured.ensures c.finish.ensures

@@ -3,7 +3,7 @@ use mathlib.Core.Path.{ap, ap₂, sym, ◌∙◌}
 use mathlib.Core.Bool.{Bool, cond}
 use mathlib.Core.List.{List}
 use Prim.Native.Nat.{ℕ}
-use Rattle.replies.specs.declared.Reply.TheVariants.{Length, NoRoom}
+use Rattle.replies.specs.Replies.{Length, NoRoom}
 use Rattle.replies.specs.Reply.{resulting}
 use Rattle.record_engine.proofs.Codes.{codes}
 use Rattle.record_engine.proofs.record_house_table.Goals as goal

@@ -9,8 +9,8 @@ pub bounds-bytes-end : goal.bounds-bytes-end
 bounds-bytes-end c =
     omega (arith, c.put_words-end.ensures.next-is, words-short (requested c.args.input.now))
 
-pub overflow_add-result : goal.overflow_add-result
-overflow_add-result c =
+pub overflow_add-count : goal.overflow_add-count
+overflow_add-count c =
     omega (arith, c.put_words-end.ensures.next-is, words-short (requested c.args.input.now))
 
 pub returns : goal.returns

@@ -11,20 +11,15 @@ use Rattle.request.proofs.put_answer.Goals as goal
 
 pub put_reply-requires : goal.put_reply-requires
 put_reply-requires c =
-    let s = c.args in
+    let q = c.args.asked in
     let size : length c.answer-reply.new.output ≡ 4854 = omega arith in
     record {
       bounded = λ l e.
-          let fits = answering-bounded s.parts.n _ _ _ s.operation (replicate 4854 0) l (sym (ap (λ (x : Result). x.reply) c.answer-reply.ensures) ∙ e) in
+          let fits = answering-bounded q.n _ _ _ q.operation (replicate 4854 0) l (sym (ap (λ (x : Result). x.reply) c.answer-reply.ensures) ∙ e) in
           omega (arith, size, fits, length-replicate {A = ℕ} 4854 0);
       output_len_bound = omega arith;
       in_bounds = search rules;
     }
 
 pub returns : goal.returns
-returns c =
-    let s = c.args in
-    puts-result
-    (answered-is s.input.now s.operation s.parts c.bytes_of-table.ensures c.bytes_of-first.ensures
-    c.bytes_of-second.ensures)
-    c.answer-reply.ensures c.put_reply.ensures
+returns c = puts-result (answered-is c.args.asked) c.answer-reply.ensures c.put_reply.ensures

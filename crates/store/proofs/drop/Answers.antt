@@ -1,47 +1,52 @@
 -- The table is opened; then the buffer.
-use mathlib.Core.Path.{refl, sym, ◌∙◌}
+use mathlib.Core.Path.{sym, ◌∙◌}
 use native.Mathlib.Omega.{arith}
 use lib.ListN.{length}
-use Rattle.acceptance.proofs.Acceptance.{opened-accepted}
+use Rattle.std.proofs.lemmas.Result.{err_from_is_err_and}
+use Rattle.gathering.proofs.Told.{told-ok, told-err, handed-on}
 use Rattle.contents.proofs.Room.{blank-room}
-use Rattle.store.proofs.Settling.{front-inside, front_length, front-bounded, front-made}
-use Rattle.store.proofs.Opening.{drop-table, drop-long, drop-made}
+use Rattle.store.proofs.Settling.{front-inside, front_length, front-bounded, front-made, front-told, settle-none}
+use Rattle.store.proofs.Opening.{drop-stops, drop-made}
 use Rattle.store.proofs.drop.Goals as goal
 
-pub returns-then-room-gt-MOST : goal.returns-then-room-gt-MOST
-returns-then-room-gt-MOST c =
+pub returns-in_err-open : goal.returns-in_err-open
+returns-in_err-open c =
     let a = c.args in
-    drop-long a.n a.table.now c.open-opened.ensures.answers a.store.now a.version c.in-Accepted.is c.if-room-gt-MOST.true
+    let given = err_from_is_err_and c.from_residual.result c.from_residual.ensures.1 in
+    rw (given.1, given.2) (drop-stops a.n a.table.now a.store.now c.open.ensures a.version _ c.in_err-open.was)
 
-pub slice_bounds-drop_among-end : goal.slice_bounds-drop_among-end
-slice_bounds-drop_among-end c = sym c.open-opened.ensures.long
+pub slice_bounds-drop_among-end-2 : goal.slice_bounds-drop_among-end-2
+slice_bounds-drop_among-end-2 c = sym (blank-room _ (c.open.ensures.opened c.in_ok-open.was).1)
 
-pub slice_bounds-drop_among-end-in-Accepted : goal.slice_bounds-drop_among-end-in-Accepted
-slice_bounds-drop_among-end-in-Accepted c = sym (blank-room _ (omega (arith, c.if-room-gt-MOST.false)))
+pub drop_among-requires : goal.drop_among-requires
+drop_among-requires c =
+    let ready = c.open.ensures.opened c.in_ok-open.was in
+    (ready.0, blank-room _ ready.1, ready.1)
 
-pub drop_among-reply-requires : goal.drop_among-reply-requires
-drop_among-reply-requires c =
+pub returns-in_err-used : goal.returns-in_err-used
+returns-in_err-used c =
     let a = c.args in
-    let ok = opened-accepted a.n a.table.now _ c.open-opened.ensures.answers c.in-Accepted.is in
-    (record { ok = ok; lent = _; long = λ d. refl; holding = c.open-opened.ensures.holds ok }, blank-room _ (omega (arith, c.if-room-gt-MOST.false)), omega (arith, c.if-room-gt-MOST.false))
+    let ready = c.open.ensures.opened c.in_ok-open.was in
+    rw (handed-on c.from_residual-in_err-used.ensures.1 c.in_err-used.was)
+    (settle-none _ _ a.store.now (told-err c.in_err-used.was)
+    ∙ drop-made a.n a.table.now a.store.now c.open.ensures a.version c.in_ok-open.was
+    (front-made (length a.store.now) ready.1 c.drop_among.ensures))
 
-pub slice_bounds-state-end-in-Accepted : goal.slice_bounds-state-end-in-Accepted
-slice_bounds-state-end-in-Accepted c = front-inside (length c.args.store.now) (omega (arith, c.if-room-gt-MOST.false)) c.drop_among-reply.ensures
+pub slice_bounds-state-end-2 : goal.slice_bounds-state-end-2
+slice_bounds-state-end-2 c = front-inside (length c.args.store.now) (c.open.ensures.opened c.in_ok-open.was).1 c.drop_among.ensures
 
 pub slice_bounds-settle-end : goal.slice_bounds-settle-end
-slice_bounds-settle-end c = sym (front_length (length c.args.store.now) (omega (arith, c.if-room-gt-MOST.false)) c.drop_among-reply.ensures)
+slice_bounds-settle-end c = sym (front_length (length c.args.store.now) (c.open.ensures.opened c.in_ok-open.was).1 c.drop_among.ensures)
 
 pub settle-requires : goal.settle-requires
-settle-requires c = (front-bounded (length c.args.store.now) (omega (arith, c.if-room-gt-MOST.false)) c.drop_among-reply.ensures, front_length (length c.args.store.now) (omega (arith, c.if-room-gt-MOST.false)) c.drop_among-reply.ensures)
+settle-requires c =
+    let room = (c.open.ensures.opened c.in_ok-open.was).1 in
+    (front-bounded (length c.args.store.now) room c.drop_among.ensures _ (told-ok c.in_ok-used.was), front_length (length c.args.store.now) room c.drop_among.ensures)
 
-pub returns-in-Refused : goal.returns-in-Refused
-returns-in-Refused c =
+pub returns : goal.returns
+returns c =
     let a = c.args in
-    drop-table a.n a.table.now c.open-opened.ensures.answers a.store.now a.version _ c.in-Refused.is
-
-pub returns-else-room-gt-MOST : goal.returns-else-room-gt-MOST
-returns-else-room-gt-MOST c =
-    let a = c.args in
+    let ready = c.open.ensures.opened c.in_ok-open.was in
     c.settle.ensures
-    ∙ drop-made a.n a.table.now c.open-opened.ensures.answers a.store.now a.version c.in-Accepted.is
-    (front-made (length c.args.store.now) (omega (arith, c.if-room-gt-MOST.false)) c.drop_among-reply.ensures)
+    ∙ drop-made a.n a.table.now a.store.now c.open.ensures a.version c.in_ok-open.was
+    (front-told (length a.store.now) ready.1 c.drop_among.ensures _ (told-ok c.in_ok-used.was))

@@ -1,6 +1,8 @@
 -- `merge` meets its contract: it takes the least size that the graphs fit in.
+use mathlib.Core.Logic.{inl, inr}
 use native.Mathlib.Omega.{arith}
 use Rattle.layout.proofs.Order.{directory}
+use Rattle.merging.proofs.Sizes.{links-most, spacious}
 use Rattle.unify.proofs.merge.Goals as goal
 
 pub bounds-a-0 : goal.bounds-a-0
@@ -21,11 +23,41 @@ overflow_add-nodes c = omega (arith, c.requires.operand.recorded.small, c.requir
 pub link_count-links-requires : goal.link_count-links-requires
 link_count-links-requires c = (c.requires.operand.recorded, c.requires.operand_2.recorded)
 
-pub merge_small-requires : goal.merge_small-requires
-merge_small-requires c = let p = c.requires in record { n_nonzero = p.n_nonzero; meeting = p.meeting; operand = p.operand; operand_2 = p.operand_2; holding = p.holding; b_bound = (c.if-nodes-le-SMALL_NODES.true, omega (arith, c.if-links-le-SMALL_LINKS.true, c.link_count-links.ensures)) }
+pub merge_sized-requires : goal.merge_sized-requires
+merge_sized-requires c =
+    let p = c.requires in
+    record {
+      n_nonzero = p.n_nonzero;
+      meeting = p.meeting;
+      operand = p.operand;
+      operand_2 = p.operand_2;
+      few = (omega arith, omega arith);
+      spacious =
+          (spacious p.operand.recorded p.operand_2.recorded {nodes = 20} {links = 48} {width = 48} c.if-nodes-le-SMALL_NODES.true (omega (arith, c.if-links-le-SMALL_LINKS.true, c.link_count-links.ensures)) (inr (omega arith)) (omega arith) (omega arith), p.holding);
+    }
 
-pub merge_middle-requires : goal.merge_middle-requires
-merge_middle-requires c = let p = c.requires in record { n_nonzero = p.n_nonzero; meeting = p.meeting; operand = p.operand; operand_2 = p.operand_2; holding = p.holding; b_bound = (c.if-nodes-le-MIDDLE_NODES.true, omega (arith, c.if-links-le-MIDDLE_LINKS.true, c.link_count-links.ensures)) }
+pub merge_sized-requires-then-links-le-MIDDLE_LINKS : goal.merge_sized-requires-then-links-le-MIDDLE_LINKS
+merge_sized-requires-then-links-le-MIDDLE_LINKS c =
+    let p = c.requires in
+    record {
+      n_nonzero = p.n_nonzero;
+      meeting = p.meeting;
+      operand = p.operand;
+      operand_2 = p.operand_2;
+      few = (omega arith, omega arith);
+      spacious =
+          (spacious p.operand.recorded p.operand_2.recorded {nodes = 80} {links = 240} {width = 64} c.if-nodes-le-MIDDLE_NODES.true (omega (arith, c.if-links-le-MIDDLE_LINKS.true, c.link_count-links.ensures)) (inl (omega arith)) (omega arith) (omega arith), p.holding);
+    }
 
-pub merge_large-requires : goal.merge_large-requires
-merge_large-requires c = c.requires
+pub merge_sized-requires-2 : goal.merge_sized-requires-2
+merge_sized-requires-2 c =
+    let p = c.requires in
+    record {
+      n_nonzero = p.n_nonzero;
+      meeting = p.meeting;
+      operand = p.operand;
+      operand_2 = p.operand_2;
+      few = (omega arith, omega arith);
+      spacious =
+          (spacious p.operand.recorded p.operand_2.recorded {nodes = 510} {links = 4096} {width = 64} (omega (arith, p.operand.recorded.small, p.operand_2.recorded.small)) (links-most p.operand.recorded p.operand_2.recorded) (inl (omega arith)) (omega arith) (omega arith), p.holding);
+    }

@@ -2,6 +2,7 @@
 use mathlib.Core.Path.{sym, ◌∙◌}
 use Prim.Native.Nat.{ℕ}
 use lib.ListN.{length-replicate}
+use Rattle.std.proofs.lemmas.Result.{err_from_is_err_and}
 use Rattle.unify.proofs.Result.{answers-cycle, answers-clash, answers-written}
 use Rattle.unify.proofs.tell.Goals as goal
 
@@ -20,5 +21,10 @@ returns-then-has_clash c = λ n meets a b left right m. answers-clash n meets le
 pub write-requires : goal.write-requires
 write-requires c = c.requires
 
+pub returns-in_err-write : goal.returns-in_err-write
+returns-in_err-write c = λ n meets a b left right m.
+    let p = err_from_is_err_and c.from_residual.result c.from_residual.ensures.1 in
+    rw (p.1, p.2) (answers-written n meets left right m (c.sort_targets_first.ensures.sorts.sorted c.if-sort_targets_first.false).1 (sym c.has_clash.ensures ∙ c.if-has_clash.false) c.args.out.now c.in_err-write.ensures)
+
 pub returns : goal.returns
-returns c = λ n meets a b left right m. answers-written n meets left right m (c.sort_targets_first.ensures.sorts.sorted c.if-sort_targets_first.false).1 (sym c.has_clash.ensures ∙ c.if-has_clash.false) c.args.out.now c.write.ensures
+returns c = λ n meets a b left right m. answers-written n meets left right m (c.sort_targets_first.ensures.sorts.sorted c.if-sort_targets_first.false).1 (sym c.has_clash.ensures ∙ c.if-has_clash.false) c.args.out.now c.in_ok-write.ensures

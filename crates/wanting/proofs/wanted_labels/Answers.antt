@@ -1,7 +1,10 @@
 use mathlib.Core.Path.{ap}
-use Prim.Native.Nat.{ℕ}
 use native.Mathlib.Omega.{arith}
-use lib.ListN.{length-replicate, get_or-replicate}
+use Rattle.std.specs.Prelude.{option_map}
+use Rattle.layout.specs.Builder.{stated}
+use lib.ListN.{length-replicate}
+use Rattle.wanting.specs.declared.Meet.{Meet}
+use Rattle.wanting.specs.Wanted.{no_meet}
 use Rattle.lattice.specs.Label.{Label}
 use Rattle.lattice.proofs.Laws.{accepted-size}
 use Rattle.wanting.proofs.Wanting.{wants-start, wants-next, wants-none, wants-done}
@@ -21,10 +24,7 @@ read_words-down-requires c =
 
 pub meet_over-requires : goal.meet_over-requires
 meet_over-requires c =
-    let asked = asked-labels c.requires.0 in (record {
-      labels_over = (asked, record { types = length-replicate {A = ℕ} 255 0; lows = length-replicate {A = ℕ} 255 0; highs = length-replicate {A = ℕ} 255 255 });
-      by_index = (λ v h. get_or-replicate {A = ℕ} 255 v 0 0 (omega (arith, asked.small)), λ v h. get_or-replicate {A = ℕ} 255 v 255 0 (omega (arith, asked.small)));
-    })
+    (asked-labels c.requires.0, length-replicate {A = Meet} 255 no_meet)
 
 pub loop-v-init : goal.loop-v-init
 loop-v-init c =
@@ -35,27 +35,15 @@ loop-v-init c =
 pub label_at-p-requires : goal.label_at-p-requires
 label_at-p-requires c = (c.loop-v.invariant.shaped, c.loop-v-test.true)
 
-pub offset_bounds-over-v : goal.offset_bounds-over-v
-offset_bounds-over-v c = omega (arith, c.loop-v-test.true, c.loop-v.invariant.small)
-
-pub bounds-over-v : goal.bounds-over-v
-bounds-over-v c = omega (arith, c.loop-v-test.true, c.loop-v.invariant.small)
-
-pub bounds-lowest-v : goal.bounds-lowest-v
-bounds-lowest-v c = omega (arith, c.loop-v-test.true, c.loop-v.invariant.small)
-
-pub bounds-highest-v : goal.bounds-highest-v
-bounds-highest-v c = omega (arith, c.loop-v-test.true, c.loop-v.invariant.small)
-
-pub wanted_label-label-requires : goal.wanted_label-label-requires
-wanted_label-label-requires c =
+pub wanted_label-requires : goal.wanted_label-requires
+wanted_label-requires c =
     let turn = c.loop-v in
     (turn.invariant.few, omega (arith, ap (λ (l : Label). l.type) c.label_at-p.ensures, (turn.invariant.known turn.v c.loop-v-test.true).type))
 
-pub returns-then-label-ge64 : goal.returns-then-label-ge64
-returns-then-label-ge64 c =
+pub returns-in_default : goal.returns-in_default
+returns-in_default c =
     let turn = c.loop-v in
-    wants-none turn.invariant c.loop-v-test.true c.label_at-p.ensures c.wanted_label-label.ensures c.if-label-ge64.true _
+    wants-none turn.invariant c.loop-v-test.true c.label_at-p.ensures c.wanted_label.ensures (ap (option_map stated) c.in_default.is) _
 
 pub overflow_mul-v : goal.overflow_mul-v
 overflow_mul-v c = omega (arith, c.loop-v-test.true, c.loop-v.invariant.small)
@@ -65,16 +53,13 @@ put_label-requires c =
     let turn = c.loop-v in
     omega (arith, c.loop-v-test.true, turn.invariant.small, turn.invariant.wants.long)
 
-pub overflow_add-v : goal.overflow_add-v
-overflow_add-v c = omega (arith, c.loop-v-test.true, c.loop-v.invariant.small)
-
 pub loop-v-smaller : goal.loop-v-smaller
 loop-v-smaller c = omega (arith, c.loop-v-test.true)
 
 pub loop-v-preserved : goal.loop-v-preserved
 loop-v-preserved c =
     let turn = c.loop-v in
-    wants-next turn.invariant c.loop-v-test.true c.label_at-p.ensures c.wanted_label-label.ensures c.if-label-ge64.false
+    wants-next turn.invariant c.loop-v-test.true c.label_at-p.ensures c.wanted_label.ensures (ap (option_map stated) c.in-Some.is)
     c.put_label.ensures
 
 pub returns : goal.returns

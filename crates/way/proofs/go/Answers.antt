@@ -6,12 +6,13 @@ use lib.ListN.{take}
 use Rattle.replies.specs.Reply.{length_of}
 use Rattle.versions.specs.State.{way}
 use Rattle.versions.specs.Slots.{programs_in}
-use Rattle.gathering.proofs.Told.{none-some, no_length}
+use Rattle.replies.specs.Replies.{told}
+use Rattle.gathering.proofs.Told.{none-some, told-ok, told-err, handed-on}
 use Rattle.versions.proofs.Lengths.{none-bounded, length-bounded}
 use Rattle.versions.proofs.Packs.{two-long}
 use Rattle.way.specs.Promise.{Led}
 use Rattle.way.proofs.Ways.{going_start, going-same, going-absent, going_step, going-stops, going-ends, going-led}
-use Rattle.way.proofs.go.Goals.{then-length_in-ne0+in-Length, else-length_in-ne0}
+use Rattle.way.proofs.go.Goals.{then-length_in-ne0+in_ok-used, else-length_in-ne0}
 use Rattle.way.proofs.go.Goals as goal
 
 pub loop-version-init : goal.loop-version-init
@@ -22,8 +23,8 @@ loop-version-init c =
 pub length_in-requires : goal.length_in-requires
 length_in-requires c = (c.requires.1, c.loop-version-test.true)
 
-pub step-reply-requires : goal.step-reply-requires
-step-reply-requires c =
+pub step-requires : goal.step-requires
+step-requires c =
     let a = c.args in
     let begun = two-long 0 a.state.now c.put_length-2.ensures c.requires.3 in
     let kept = c.loop-version.invariant.long ∙ begun in
@@ -37,28 +38,29 @@ step-reply-requires c =
       omega (arith, kept, c.requires.4),
     )
 
-pub shape_of-part-in_default : goal.shape_of-part-in_default
-shape_of-part-in_default c = c.step-reply.ensures.parted.long ∙ sym c.requires.2.long
+pub shape_of-part-in_err-used : goal.shape_of-part-in_err-used
+shape_of-part-in_err-used c = c.step.ensures.parted.long ∙ sym c.requires.2.long
 
-pub shape_of-state-in_default : goal.shape_of-state-in_default
-shape_of-state-in_default c =
+pub shape_of-state-in_err-used : goal.shape_of-state-in_err-used
+shape_of-state-in_err-used c =
     let a = c.args in
     let begun = two-long 0 a.state.now c.put_length-2.ensures c.requires.3 in
-    c.step-reply.ensures.long ∙ c.loop-version.invariant.long ∙ begun
+    c.step.ensures.long ∙ c.loop-version.invariant.long ∙ begun
 
-pub returns-in_default : goal.returns-in_default
-returns-in_default c =
+pub returns-in_err-used : goal.returns-in_err-used
+returns-in_err-used c =
     let a = c.args in
     let begun = two-long 0 a.state.now c.put_length-2.ensures c.requires.3 in
     let whole = ap (λ (room : ℕ). way a.n a.table.now room (programs_in a.slots.now)) begun in
-    let refused = no_length c.step-reply.result c.in_default.not-Length in
-    record {
-      long = c.step-reply.ensures.long ∙ c.loop-version.invariant.long ∙ begun;
-      inside = none-bounded c.step-reply.result refused _;
-      parted = c.step-reply.ensures.parted;
-      goes = going-stops c.loop-version.invariant c.loop-version-test.true (λ e. c.if-length_in-ne0.true (c.length_in.ensures.0 ∙ e)) c.step-reply.ensures refused ∙ whole;
+    let refused = told-err c.in_err-used.was in
+    rw (handed-on c.from_residual.ensures.1 c.in_err-used.was)
+    (record {
+      long = c.step.ensures.long ∙ c.loop-version.invariant.long ∙ begun;
+      inside = none-bounded (told c.step.result) refused _;
+      parted = c.step.ensures.parted;
+      goes = going-stops c.loop-version.invariant c.loop-version-test.true (λ e. c.if-length_in-ne0.true (c.length_in.ensures.0 ∙ e)) c.step.ensures refused ∙ whole;
       led = λ k e. none-some (sym refused ∙ ap length_of e);
-    }
+    })
 
 pub loop-version-preserved : goal.loop-version-preserved
 loop-version-preserved c =
@@ -66,8 +68,8 @@ loop-version-preserved c =
     let inside = c.loop-version-test.true in
     let found = c.length_in.ensures.0 in
     elim c.if-length_in-ne0.branch [
-      | then-length_in-ne0+in-Length w ↦
-          going-same (going_step so inside (λ e. w.if-length_in-ne0.true (found ∙ e)) w.step-reply.ensures _ w.in-Length.is) w.part-is w.state-is w.used-is
+      | then-length_in-ne0+in_ok-used w ↦
+          going-same (going_step so inside (λ e. w.if-length_in-ne0.true (found ∙ e)) w.step.ensures _ (told-ok w.in_ok-used.was)) w.part-is w.state-is w.used-is
       | else-length_in-ne0 w ↦ going-same (going-absent so inside (sym found ∙ w.if-length_in-ne0.false)) w.part-is w.state-is w.used-is
     ]
 

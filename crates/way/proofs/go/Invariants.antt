@@ -1,11 +1,7 @@
 -- `go` meets its contract: the way of the programs goes one version after the other.
-use Prim.Native.Nat.{◌-◌}
 use lib.ListN.{length}
 use Rattle.way.proofs.Ways.{Going}
 use Rattle.way.proofs.go.Given as goal
 
 abbrev pub invariant-loop-version : goal.invariant-loop-version
 invariant-loop-version l = Going l.n l.table l.slots (length l.initial.state) l.part l.state l.used l.version
-
-abbrev pub decreases-loop-version : goal.decreases-loop-version
-decreases-loop-version l = 16 - l.version

@@ -8,6 +8,3 @@ use Rattle.acceptance.proofs.order.are_rows_set.Given as goal
 
 abbrev pub invariant-loop-i : goal.invariant-loop-i
 invariant-loop-i l = (l.i ≤ l.n) × ((k : ℕ) → k < l.i → row_inside (get_or l.down (l.n - 1) 0) (get_or l.down k 0) k ≡ true)
-
-abbrev pub decreases-loop-i : goal.decreases-loop-i
-decreases-loop-i l = l.n - l.i

@@ -1,13 +1,12 @@
 use Prim.Native.Nat.{◌+◌}
-use mathlib.Core.Bool.{true, false}
-use mathlib.Core.Path.{refl, sym, ◌∙◌}
+use mathlib.Core.Bool.{true, false, not}
+use mathlib.Core.Path.{refl, sym, ap, ◌∙◌}
 use native.Mathlib.Omega.{arith}
-use borrow.Author.Tests.{le-ltb, lt-ltb}
 use Rattle.lattice.proofs.Every.{every-fails, all-kept, every-end}
-use Rattle.lattice.proofs.Rows.{holder-found}
+use Rattle.lattice.proofs.Rows.{holder-found, answer-cell}
 use Rattle.bounds.proofs.Columns.{filling-begins, filling-more, filling-ends, none-tested, is-tested}
 use borrow.Author.Rules.{rules}
-use Rattle.bounds.proofs.cells.bound_row.Goals.{then-c-ge64, else-c-ge64}
+use Rattle.bounds.proofs.cells.bound_row.Goals.{then-is_none, else-is_none}
 use Rattle.bounds.proofs.cells.bound_row.Goals as goal
 
 pub loop-b-init : goal.loop-b-init
@@ -25,17 +24,17 @@ loop-b-preserved c =
     let ws = c.args.words.now in
     let a = c.args.a in
     let answer = c.bound-c.ensures n c.requires.1 c.requires.2 c.requires.0 (search rules) in
-    let told = holder-found n ws _ _ _ c.requires.1 refl answer in (
+    let told = holder-found n ws _ _ _ refl answer in (
       search rules,
       search rules,
-      filling-more n ws turn.rows a turn.b _ c.requires.1 turn.invariant.0 (search rules) answer turn.invariant.2,
-      elim c.if-c-ge64.branch [
-        | then-c-ge64 w ↦
+      filling-more n ws turn.rows a turn.b _ c.requires.1 turn.invariant.0 (search rules) (c.unwrap_or-cell.ensures ∙ answer-cell _ _ answer) turn.invariant.2,
+      elim c.if-is_none.branch [
+        | then-is_none w ↦
             w.found-is ∙
             sym (every-fails _ (turn.b + 1) turn.b (omega arith)
-            (is-tested a turn.b _ false turn.invariant.0 (sym told ∙ le-ltb _ _ w.if-c-ge64.true)))
-        | else-c-ge64 w ↦
-            w.found-is ∙ all-kept _ turn.b _ turn.invariant.3 (is-tested a turn.b _ true turn.invariant.0 (sym told ∙ lt-ltb _ _ w.if-c-ge64.false))
+            (is-tested a turn.b _ false turn.invariant.0 (sym told ∙ c.is_none.ensures ∙ ap not w.if-is_none.true)))
+        | else-is_none w ↦
+            w.found-is ∙ all-kept _ turn.b _ turn.invariant.3 (is-tested a turn.b _ true turn.invariant.0 (sym told ∙ c.is_none.ensures ∙ ap not w.if-is_none.false))
       ],
     )
 

@@ -1,6 +1,6 @@
 -- `fill` meets its contract. The loop's invariant: the rows before a are overwritten, the columns before a are written, and `found` tells
 -- whether each type before a has a bound with every type from itself on.
-use Prim.Native.Nat.{◌≤◌, ◌-◌}
+use Prim.Native.Nat.{◌≤◌}
 use mathlib.Core.Path.{◌≡◌}
 use lib.Dec.{leb}
 use Rattle.lattice.specs.Table.{every, implies, found as foundOf, bound_row, overwrite}
@@ -14,6 +14,3 @@ invariant-loop-a l =
     × (l.found ≡ every l.a (λ k. every l.n (λ b. implies (leb k b) (foundOf (word_bound l.n l.words k b)))))
     × (l.table ≡ overwrite l.a (bound_row l.n (word_bound l.n l.words)) l.initial.table)
     × Columns l.n l.words l.rows l.a
-
-abbrev pub decreases-loop-a : goal.decreases-loop-a
-decreases-loop-a l = l.n - l.a

@@ -61,7 +61,7 @@ returns c =
     let ws = c.args.down.now in
     let done : turn.j ≡ n = search rules in
     record {
-      primes = every-done _ turn.j n (search rules) (search rules) turn.invariant.1;
-      types = λ e. word-done (word_irreducible n ws) turn.j n _ (search rules) (search rules) turn.invariant.2;
-      above = λ e i l. turn.invariant.3.stand i (omega (arith, done));
+      primes = sym (every-done _ turn.j n (search rules) (search rules) turn.invariant.1);
+      types = word-done (word_irreducible n ws) turn.j n _ (search rules) (search rules) turn.invariant.2;
+      above = λ i l. turn.invariant.3.stand i (omega (arith, done));
     }

@@ -1,6 +1,6 @@
 use Prim.Native.Nat.{ℕ, ◌+◌, ◌-◌, ◌<◌}
 use mathlib.Core.Path.{◌≡◌, refl, sym, ap, subst, ◌∙◌}
-use mathlib.Core.Bool.{Bool, true, false, not}
+use mathlib.Core.Bool.{Bool, true, false}
 use native.Mathlib.Nat.{not-suc-le-zero}
 use native.Mathlib.Omega.{arith}
 use mathlib.Core.List.{List}
@@ -10,7 +10,7 @@ use lib.Bits.{bit_and}
 use Rattle.lattice.specs.Words.{word}
 use Rattle.bounds.specs.Primes.{word_irreducible}
 use Rattle.bounds.specs.Sets.{Sets, SoughtBy}
-use Rattle.lattice.proofs.Every.{refuted, held, true-not-false}
+use Rattle.lattice.proofs.Every.{true-not-false}
 use Rattle.bounds.proofs.Held.{sets_more}
 use borrow.Author.Rules.{rules}
 use Rattle.bounds.proofs.sets.hold.Goals.{then-up, else-up}
@@ -25,10 +25,10 @@ again {up} n {ws} {sets} {new} {k} {v} w long s l e f q = (
   subst (λ (l : List ℕ). Sets up n ws l (k + 1)) (sym q) (sets_more s long l v w e f),
 )
 
-pub returns-then-not-found : goal.returns-then-not-found
-returns-then-not-found c =
+pub returns-in_default : goal.returns-in_default
+returns-in_default c =
     record {
-      value = sym (refuted c.find_irreducibles-found.ensures.primes (ap not c.if-not-found.true));
+      value = sym c.in_default.ensures;
       sets = λ e. absurd (true-not-false false e refl);
       n_after = λ e. get_or-set_same c.args.sets.now (c.args.n - 1) 0 0 (omega (arith, c.requires.sets_len, c.requires.n_nonzero));
     }
@@ -40,15 +40,14 @@ loop-a-init c =
 pub loop-a-preserved : goal.loop-a-preserved
 loop-a-preserved c =
     let turn = c.loop-a in
-    let found = c.find_irreducibles-found in
+    let found = c.in-Some.ensures in
     let n = c.args.n in
     let ws = c.args.down.now in
-    let primes = held refl (ap not c.if-not-found.false) in
-    let value = ap (bit_and (get_or ws turn.a 0)) (found.ensures.types primes) in
+    let value = ap (bit_and (get_or ws turn.a 0)) found.types in
     elim c.if-up.branch [
       | then-up came ↦
-          let w = get_or found.result.above turn.a 0 in
-          let sought = subst (λ (b : Bool). SoughtBy b n ws turn.a w) (sym came.if-up.true) (found.ensures.above primes turn.a (search rules)) in
+          let w = get_or c.in-Some.found.above turn.a 0 in
+          let sought = subst (λ (b : Bool). SoughtBy b n ws turn.a w) (sym came.if-up.true) (found.above turn.a (search rules)) in
           let next = again n w turn.invariant.1 turn.invariant.2 (search rules) value sought came.sets-is in (search rules, next.0, next.1)
       | else-up came ↦
           let w = get_or ws turn.a 0 in
@@ -62,7 +61,7 @@ returns c =
     let n = c.args.n in
     let done : turn.a ≡ n = search rules in
     record {
-      value = sym (held c.find_irreducibles-found.ensures.primes (ap not c.if-not-found.false));
+      value = sym c.in-Some.ensures.primes;
       sets = λ e. subst (Sets c.args.up n c.args.down.now _) done turn.invariant.2;
       n_after = λ e. absurd (true-not-false true refl e);
     }

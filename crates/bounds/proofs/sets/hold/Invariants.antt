@@ -1,5 +1,5 @@
 -- `hold` meets its contract. The loop's invariant: the sets of the types before a are stored.
-use Prim.Native.Nat.{◌-◌, ◌≤◌}
+use Prim.Native.Nat.{◌≤◌}
 use mathlib.Core.Path.{◌≡◌}
 use lib.ListN.{length}
 use Rattle.bounds.specs.Sets.{Sets}
@@ -7,6 +7,3 @@ use Rattle.bounds.proofs.sets.hold.Given as goal
 
 abbrev pub invariant-loop-a : goal.invariant-loop-a
 invariant-loop-a l = (l.a ≤ l.n) × (length l.sets ≡ 128) × Sets l.up l.n l.down l.sets l.a
-
-abbrev pub decreases-loop-a : goal.decreases-loop-a
-decreases-loop-a l = l.n - l.a

@@ -1,4 +1,5 @@
 -- `join` meets its contract: the answer is the cell, or the type whose set is the union.
+use mathlib.Core.Path.{◌∙◌}
 use Rattle.bounds.proofs.Held.{union-member, join-in-cells, join-left, join-right, join-sought}
 use Rattle.bounds.proofs.sets.join.Goals as goal
 
@@ -19,4 +20,5 @@ above_all-requires c = union-member _ _ c.if-set-sets.false
 
 pub returns : goal.returns
 returns c =
+    c.unwrap_or.ensures ∙
     join-sought c.args.n c.args.sets.now c.args.cells.now c.args.a c.args.b c.if-sets-n-eq0.false c.requires.a_lt_n.0 c.requires.a_lt_n.1 c.requires.seekable.0 _ _ c.requires.a_lt_n.2 c.above_all.ensures c.find_set.ensures

@@ -1,5 +1,6 @@
 -- `difference_by_with` meets its contract: the table is tested, then the list; then the difference is written.
 use mathlib.Core.Path.{sym, ◌∙◌}
+use Rattle.std.proofs.lemmas.Result.{err_from_is_err_and}
 use Rattle.acceptance.proofs.Acceptance.{opened-accepted}
 use Rattle.calls.proofs.Differences.{differing-by-refused, differing-by-list, differing-by-accepted}
 use Rattle.calls.proofs.differing.difference_by_with.Goals as goal
@@ -7,7 +8,7 @@ use Rattle.calls.proofs.differing.difference_by_with.Goals as goal
 pub returns-then-not-is_reading_order : goal.returns-then-not-is_reading_order
 returns-then-not-is_reading_order c =
     let a = c.args in
-    differing-by-list a.explained a.n a.table.now a.first.now a.second.now a.out.now a.reasons.now a.list.now (sym c.accept-opened.ensures ∙ c.in-Accepted.is)
+    differing-by-list a.explained a.n a.table.now a.first.now a.second.now a.out.now a.reasons.now a.list.now (sym c.in_ok-accept.ensures)
     (sym c.is_reading_order.ensures ∙ c.if-not-is_reading_order.true)
 
 pub by_list-order-requires : goal.by_list-order-requires
@@ -16,15 +17,16 @@ by_list-order-requires c = sym c.is_reading_order.ensures ∙ c.if-not-is_readin
 pub of_records-requires : goal.of_records-requires
 of_records-requires c =
     let a = c.args in
-    (opened-accepted a.n a.table.now _ c.accept-opened.ensures c.in-Accepted.is, c.by_list-order.ensures.0)
+    (opened-accepted a.n a.table.now _ c.accept.ensures c.in_ok-accept.was, c.by_list-order.ensures.0)
 
-pub returns-in-Refused : goal.returns-in-Refused
-returns-in-Refused c =
+pub returns-in_err-accept : goal.returns-in_err-accept
+returns-in_err-accept c =
     let a = c.args in
-    differing-by-refused a.explained a.n a.table.now a.first.now a.second.now a.out.now a.reasons.now a.list.now _ (sym c.accept-opened.ensures ∙ c.in-Refused.is)
+    let refused = err_from_is_err_and c.from_residual.result c.from_residual.ensures.1 in
+    rw (refused.1, refused.2) (differing-by-refused a.explained a.n a.table.now a.first.now a.second.now a.out.now a.reasons.now a.list.now _ (sym c.in_err-accept.ensures))
 
-pub returns-else-not-is_reading_order : goal.returns-else-not-is_reading_order
-returns-else-not-is_reading_order c =
+pub returns : goal.returns
+returns c =
     let a = c.args in
-    differing-by-accepted a.explained a.n a.table.now a.first.now a.second.now a.out.now a.reasons.now a.list.now (sym c.accept-opened.ensures ∙ c.in-Accepted.is)
+    differing-by-accepted a.explained a.n a.table.now a.first.now a.second.now a.out.now a.reasons.now a.list.now (sym c.in_ok-accept.ensures)
     (sym c.is_reading_order.ensures ∙ c.if-not-is_reading_order.false) c.by_list-order.ensures.1 c.of_records.ensures

@@ -3,10 +3,10 @@ use mathlib.Core.Path.{refl, ◌∙◌}
 use Rattle.calls.proofs.Beside.{generalizing-plain}
 use Rattle.calls.proofs.generalizing.generalize.Goals as goal
 
-pub generalize_beside-requires : goal.generalize_beside-requires
-generalize_beside-requires c = λ _. refl
+pub operate_beside-requires : goal.operate_beside-requires
+operate_beside-requires c = λ _. refl
 
 pub returns : goal.returns
 returns c =
     let a = c.args in
-    c.generalize_beside.ensures ∙ generalizing-plain a.n a.table.now _ refl a.out.now a.first.now a.second.now
+    c.operate_beside.ensures ∙ generalizing-plain a.n a.table.now _ refl a.out.now a.first.now a.second.now

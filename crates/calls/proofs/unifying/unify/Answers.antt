@@ -3,10 +3,10 @@ use mathlib.Core.Path.{refl, ◌∙◌}
 use Rattle.calls.proofs.Beside.{unifying-plain}
 use Rattle.calls.proofs.unifying.unify.Goals as goal
 
-pub unify_beside-requires : goal.unify_beside-requires
-unify_beside-requires c = λ _. refl
+pub operate_beside-requires : goal.operate_beside-requires
+operate_beside-requires c = λ _. refl
 
 pub returns : goal.returns
 returns c =
     let a = c.args in
-    c.unify_beside.ensures ∙ unifying-plain a.n a.table.now _ refl a.out.now a.first.now a.second.now
+    c.operate_beside.ensures ∙ unifying-plain a.n a.table.now _ refl a.out.now a.first.now a.second.now

@@ -5,6 +5,3 @@ use Rattle.classes.proofs.forest.flatten.Given as goal
 
 abbrev pub invariant-loop-x : goal.invariant-loop-x
 invariant-loop-x l = Flattening l.nodes l.initial.parent l.parent l.x × (l.x ≤ l.nodes)
-
-abbrev pub decreases-loop-x : goal.decreases-loop-x
-decreases-loop-x l = l.nodes - l.x

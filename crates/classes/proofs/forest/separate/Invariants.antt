@@ -6,6 +6,3 @@ use Rattle.classes.proofs.forest.separate.Given as goal
 
 abbrev pub invariant-loop-x : goal.invariant-loop-x
 invariant-loop-x l = (length l.parent ≡ 510) × (l.x ≤ l.nodes) × ((y : ℕ) → y < l.x → get_or l.parent y 0 ≡ y)
-
-abbrev pub decreases-loop-x : goal.decreases-loop-x
-decreases-loop-x l = l.nodes - l.x

@@ -1,26 +1,17 @@
+-- `map_at` meets its contract: the number of eight bytes, lowest byte first, is their word.
+use mathlib.Core.Path.{◌≡◌, ◌∙◌}
 use Prim.Native.Nat.{◌+◌, ◌-◌}
 use native.Mathlib.Omega.{arith}
-use Rattle.decode.proofs.Word.{join-begin, join-fits, join-next, join-end}
+use lib.ListN.{drop}
+use Rattle.std.proofs.lemmas.List.{get_or-take}
+use Rattle.decode.proofs.Word.{le_word}
 use Rattle.decode.proofs.reader.map_at.Goals as goal
 
-pub loop-i-init : goal.loop-i-init
-loop-i-init c = join-begin _ _
-
-pub overflow_mul-map : goal.overflow_mul-map
-overflow_mul-map c =
-    let place = c.args.at + (c.loop-i.i - 1) in
-    let small = c.type_inv.bytes place in
-    omega (arith, join-fits c.loop-i.invariant c.loop-i-test.true (omega (arith, small)))
-
-pub overflow_add-map : goal.overflow_add-map
-overflow_add-map c =
-    let small = c.type_inv.bytes (c.args.at + (c.loop-i.i - 1)) in
-    omega (arith, join-fits c.loop-i.invariant c.loop-i-test.true (omega (arith, small)))
-
-pub loop-i-preserved : goal.loop-i-preserved
-loop-i-preserved c =
-    let small = c.type_inv.bytes (c.args.at + (c.loop-i.i - 1)) in
-    join-next c.loop-i.invariant c.loop-i-test.true (omega (arith, small)) c.wide.result c.wide.ensures
-
 pub returns : goal.returns
-returns c = join-end c.loop-i.invariant c.loop-i-test.false
+returns c =
+    let a = c.args in
+    let chunk = (rw c.unwrap.ensures at c.try_into.ensures).1 in
+    let long : 8 ≡ a.at + 8 - a.at = omega arith in
+    c.from_le_bytes.ensures
+    ∙ le_word _ c.unwrap.result
+    (λ i h. rw chunk.same (get_or-take (a.at + 8 - a.at) (drop a.at a.bytes.now) i 0 (omega arith)))

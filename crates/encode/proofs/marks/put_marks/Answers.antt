@@ -25,9 +25,6 @@ put_row-at-requires c =
       v_in_bounds = marks-room c.args.graph.now c.args.marks.now inv c.loop-i-test.true;
     }
 
-pub overflow_add-i : goal.overflow_add-i
-overflow_add-i c = omega (arith, c.loop-i.invariant.visited.few, c.loop-i-test.true)
-
 pub loop-i-smaller : goal.loop-i-smaller
 loop-i-smaller c = omega (arith, c.loop-i-test.true)
 

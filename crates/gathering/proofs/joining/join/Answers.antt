@@ -5,21 +5,21 @@ use Rattle.gathering.proofs.Joins.{joined-refused, joined-none, joined-some}
 use Rattle.gathering.proofs.joining.join.Goals as goal
 
 pub of_graph-requires : goal.of_graph-requires
-of_graph-requires c = (reads-loaded c.args.n c.args.bytes.now c.read-verdict.ensures c.in-Accepted.is).sound
+of_graph-requires c = (reads-loaded c.args.n c.args.bytes.now c.read.ensures c.in_default.is).sound
 
 pub returns-then-gathered-eq0 : goal.returns-then-gathered-eq0
 returns-then-gathered-eq0 c = λ t opens.
     c.of_graph.ensures ∙
-    joined-none c.args.n t c.args.bytes.now c.args.gathered c.args.room.now c.read-verdict.ensures c.if-gathered-eq0.true c.in-Accepted.is
+    joined-none c.args.n t c.args.bytes.now c.args.gathered c.args.room.now c.read.ensures c.if-gathered-eq0.true c.in_default.is
 
 pub join_graph-requires : goal.join_graph-requires
-join_graph-requires c = (c.requires, reads-loaded c.args.n c.args.bytes.now c.read-verdict.ensures c.in-Accepted.is)
+join_graph-requires c = (c.requires, reads-loaded c.args.n c.args.bytes.now c.read.ensures c.in_default.is)
 
-pub returns-in-Refused : goal.returns-in-Refused
-returns-in-Refused c = λ t opens.
-    joined-refused c.args.n t c.args.bytes.now c.args.gathered c.args.room.now c.read-verdict.ensures _ c.in-Refused.is
+pub returns-in-Err : goal.returns-in-Err
+returns-in-Err c = λ t opens.
+    joined-refused c.args.n t c.args.bytes.now c.args.gathered c.args.room.now c.read.ensures _ c.in-Err.is
 
-pub returns-else-gathered-eq0 : goal.returns-else-gathered-eq0
-returns-else-gathered-eq0 c = λ t opens.
+pub returns : goal.returns
+returns c = λ t opens.
     c.join_graph.ensures t opens ∙
-    joined-some c.args.n t c.args.bytes.now c.args.gathered c.args.room.now c.read-verdict.ensures c.if-gathered-eq0.false c.in-Accepted.is
+    joined-some c.args.n t c.args.bytes.now c.args.gathered c.args.room.now c.read.ensures c.if-gathered-eq0.false c.in_default.is

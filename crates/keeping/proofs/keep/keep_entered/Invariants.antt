@@ -1,6 +1,6 @@
 -- `keep_entered` meets its contract. The loops' invariants: the nodes that the links before row v, and before place k, give a cause to keep are
 -- kept.
-use Prim.Native.Nat.{◌-◌, ◌≤◌}
+use Prim.Native.Nat.{◌≤◌}
 use Rattle.layout.specs.Layout.{row_from}
 use Rattle.keeping.specs.Keeping.{Markable, Entering}
 use Rattle.keeping.proofs.Keeping.{InRow}
@@ -9,11 +9,5 @@ use Rattle.keeping.proofs.keep.keep_entered.Given as goal
 abbrev pub invariant-loop-k : goal.invariant-loop-k
 invariant-loop-k l = InRow l.s l.marks l.v l.k l.initial.keep l.initial.entered l.keep l.entered
 
-abbrev pub decreases-loop-k : goal.decreases-loop-k
-decreases-loop-k l = l.end - l.k
-
 abbrev pub invariant-loop-v : goal.invariant-loop-v
 invariant-loop-v l = (l.v ≤ l.nodes) × Markable l.s l.marks l.keep × Entering l.s l.marks (row_from l.s l.v) l.initial.keep l.keep l.entered
-
-abbrev pub decreases-loop-v : goal.decreases-loop-v
-decreases-loop-v l = l.nodes - l.v

@@ -1,10 +1,7 @@
 -- `keep_labelled` meets its contract. The loop's invariant: the nodes before v whose wanted label is not top are kept.
-use Prim.Native.Nat.{◌-◌, ◌≤◌}
+use Prim.Native.Nat.{◌≤◌}
 use Rattle.keeping.specs.Keeping.{Grown, Untop}
 use Rattle.keeping.proofs.keep.keep_labelled.Given as goal
 
 abbrev pub invariant-loop-v : goal.invariant-loop-v
 invariant-loop-v l = (l.v ≤ l.nodes) × Grown (Untop l.n l.table l.labels l.v) l.initial.keep l.keep
-
-abbrev pub decreases-loop-v : goal.decreases-loop-v
-decreases-loop-v l = l.nodes - l.v

@@ -6,79 +6,54 @@ use Rattle.keeping.proofs.Thinning.{thin-start, thin-room, thin-inside, thin-mor
 use Rattle.keeping.proofs.rows.keep_row.Goals.{then-is_kept, else-is_kept}
 use Rattle.keeping.proofs.rows.keep_row.Goals as goal
 
--- src/rows.rt:23:17
 pub overflow_add-end : goal.overflow_add-end
 overflow_add-end c = let known = node-known c.requires.markable.0 _ c.requires.markable.1 in omega (arith, known.small)
 
--- src/rows.rt:23:15
 pub offset_bounds-s-v : goal.offset_bounds-s-v
 offset_bounds-s-v c = let known = node-known c.requires.markable.0 _ c.requires.markable.1 in omega (arith, known.small)
 
--- src/rows.rt:23:15
 pub bounds-s-v : goal.bounds-s-v
 bounds-s-v c = let known = node-known c.requires.markable.0 _ c.requires.markable.1 in omega (arith, known.node.listed)
 
--- src/rows.rt:23:15
 pub overflow_cast-end : goal.overflow_cast-end
 overflow_cast-end c = omega (arith, c.type_inv.s (c.args.v + 2))
 
--- src/rows.rt:24:19
 pub overflow_add-k : goal.overflow_add-k
 overflow_add-k c = let known = node-known c.requires.markable.0 _ c.requires.markable.1 in omega (arith, known.small)
 
--- src/rows.rt:24:17
 pub offset_bounds-s-v-2 : goal.offset_bounds-s-v-2
 offset_bounds-s-v-2 c = let known = node-known c.requires.markable.0 _ c.requires.markable.1 in omega (arith, known.small)
 
--- src/rows.rt:24:17
 pub bounds-s-v-2 : goal.bounds-s-v-2
 bounds-s-v-2 c = let known = node-known c.requires.markable.0 _ c.requires.markable.1 in omega (arith, known.node.listed)
 
--- src/rows.rt:24:17
 pub overflow_cast-k : goal.overflow_cast-k
 overflow_cast-k c = omega (arith, c.type_inv.s (c.args.v + 1))
 
--- src/rows.rt:24:17
-pub overflow_add-k-2 : goal.overflow_add-k-2
-overflow_add-k-2 c = omega (arith, c.type_inv.s (c.args.v + 1))
-
--- src/rows.rt:26:5
 pub loop-k-init : goal.loop-k-init
 loop-k-init c = thin-start c.requires.markable.0 c.requires.markable.1 c.requires.words_len.0 c.requires.words_len.1
 
--- src/rows.rt:27:12
 pub is_kept-requires : goal.is_kept-requires
 is_kept-requires c = let place = place-known c.loop-k.invariant.ready c.loop-k.invariant.inside c.loop-k.invariant.low c.loop-k-test.true in let ready = c.loop-k.invariant.ready in (record { marks_len = (ready.marks-long, ready.keep-long); k_in_bounds = (place.within, place.target) })
 
--- src/rows.rt:28:27
 pub offset_bounds-s-k : goal.offset_bounds-s-k
 offset_bounds-s-k c = let place = place-known c.loop-k.invariant.ready c.loop-k.invariant.inside c.loop-k.invariant.low c.loop-k-test.true in omega (arith, place.few)
 
--- src/rows.rt:28:27
 pub bounds-s-k : goal.bounds-s-k
 bounds-s-k c = let place = place-known c.loop-k.invariant.ready c.loop-k.invariant.inside c.loop-k.invariant.low c.loop-k-test.true in place.within
 
--- src/rows.rt:28:13
 pub offset_bounds-words-next : goal.offset_bounds-words-next
 offset_bounds-words-next c = omega (arith, thin-room c.loop-k.invariant c.loop-k-test.true)
 
--- src/rows.rt:28:13
 pub bounds-words-next : goal.bounds-words-next
 bounds-words-next c = thin-inside c.loop-k.invariant c.loop-k-test.true
 
--- src/rows.rt:29:13
 pub overflow_add-next : goal.overflow_add-next
 overflow_add-next c = omega (arith, thin-room c.loop-k.invariant c.loop-k-test.true)
 
--- src/rows.rt:31:9
-pub overflow_add-k-in-loop-k : goal.overflow_add-k-in-loop-k
-overflow_add-k-in-loop-k c = let place = place-known c.loop-k.invariant.ready c.loop-k.invariant.inside c.loop-k.invariant.low c.loop-k-test.true in omega (arith, place.few)
-
--- src/rows.rt:26:5
 pub loop-k-smaller : goal.loop-k-smaller
 loop-k-smaller c = omega (arith, c.loop-k-test.true)
 
--- src/rows.rt:26:5
 pub loop-k-preserved : goal.loop-k-preserved
 loop-k-preserved c =
     elim c.if-is_kept.branch [
@@ -86,7 +61,6 @@ loop-k-preserved c =
       | else-is_kept w ↦ thin-as w.words-is w.next-is (thin-stay c.loop-k.invariant c.loop-k-test.true (c.is_kept.ensures.no-stands w.if-is_kept.false))
     ]
 
--- src/rows.rt:11:1
 pub shape_of-words : goal.shape_of-words
 shape_of-words c = c.loop-k.invariant.thinned.long ∙ sym c.requires.words_len.0
 

@@ -7,107 +7,81 @@ use Rattle.keeping.proofs.Keeping.{node-known}
 use Rattle.keeping.proofs.Thinning.{row-known, rows_start, rows_next, rows-done}
 use Rattle.keeping.proofs.rows.kept_links.Goals as goal
 
--- src/rows.rt:50:17
 pub bounds-s-0 : goal.bounds-s-0
 bounds-s-0 c = let node = node-known c.requires.markable 0 c.requires.markable.sound.shaped.nonempty in omega (arith, node.node.listed)
 
--- src/rows.rt:50:17
 pub overflow_cast-nodes : goal.overflow_cast-nodes
 overflow_cast-nodes c = omega (arith, c.requires.markable.small)
 
--- src/rows.rt:51:18
 pub bounds-s-1 : goal.bounds-s-1
 bounds-s-1 c = let node = node-known c.requires.markable 0 c.requires.markable.sound.shaped.nonempty in omega (arith, node.node.listed)
 
--- src/rows.rt:51:18
 pub overflow_cast-at : goal.overflow_cast-at
 overflow_cast-at c = let node = node-known c.requires.markable 0 c.requires.markable.sound.shaped.nonempty in omega (arith, node.node.begun, node.ended)
 
--- src/rows.rt:52:16
 pub overflow_cast-words : goal.overflow_cast-words
 overflow_cast-words c = omega (arith, c.requires.markable.small)
 
--- src/rows.rt:52:5
 pub bounds-words-0 : goal.bounds-words-0
 bounds-words-0 c = omega (arith, (node-known c.requires.markable 0 c.requires.markable.sound.shaped.nonempty).node.listed, c.requires.words_len)
 
--- src/rows.rt:53:16
 pub overflow_cast-words-2 : goal.overflow_cast-words-2
 overflow_cast-words-2 c = let node = node-known c.requires.markable 0 c.requires.markable.sound.shaped.nonempty in omega (arith, node.node.begun, node.ended)
 
--- src/rows.rt:53:5
 pub bounds-words-1 : goal.bounds-words-1
 bounds-words-1 c = simp length-set (omega (arith, (node-known c.requires.markable 0 c.requires.markable.sound.shaped.nonempty).node.listed, c.requires.words_len))
 
--- src/rows.rt:55:5
 pub loop-v-init : goal.loop-v-init
 loop-v-init c = (omega arith, c.requires.markable, rows_start c.args.words.now c.requires.markable c.requires.words_len)
 
--- src/rows.rt:56:65
 pub overflow_mul-v : goal.overflow_mul-v
 overflow_mul-v c =
     let known = row-known c.loop-v.invariant.1 c.loop-v-test.true c.loop-v.invariant.2 in
     omega (arith, known.small)
 
--- src/rows.rt:56:38
 pub label_from-requires : goal.label_from-requires
 label_from-requires c =
     let turn = c.loop-v in
     let start = c.requires.labels_len in
     (omega (arith, start.0, (row-known c.loop-v.invariant.1 c.loop-v-test.true c.loop-v.invariant.2).small), start.1 turn.v c.loop-v-test.true)
 
--- src/rows.rt:56:9
 pub put_label-requires : goal.put_label-requires
 put_label-requires c = omega (arith, c.loop-v.invariant.2.long, (row-known c.loop-v.invariant.1 c.loop-v-test.true c.loop-v.invariant.2).fits)
 
--- src/rows.rt:57:42
 pub overflow_add-at : goal.overflow_add-at
 overflow_add-at c =
     let known = row-known c.loop-v.invariant.1 c.loop-v-test.true c.loop-v.invariant.2 in
     omega (arith, known.room)
 
--- src/rows.rt:57:9
 pub keep_row-at-requires : goal.keep_row-at-requires
 keep_row-at-requires c =
     let turn = c.loop-v in
     let known = row-known c.loop-v.invariant.1 c.loop-v-test.true c.loop-v.invariant.2 in
     (record { markable = (turn.invariant.1, c.loop-v-test.true); words_len = (ap length c.put_label.ensures ∙ length-put turn.words turn.at _ ∙ turn.invariant.2.long, known.before) })
 
--- src/rows.rt:58:24
 pub overflow_cast-words-in-loop-v : goal.overflow_cast-words-in-loop-v
 overflow_cast-words-in-loop-v c =
     let known = row-known c.loop-v.invariant.1 c.loop-v-test.true c.loop-v.invariant.2 in
     omega (arith, c.keep_row-at.ensures.short, known.ended)
 
--- src/rows.rt:58:15
 pub overflow_add-words : goal.overflow_add-words
 overflow_add-words c =
     let known = row-known c.loop-v.invariant.1 c.loop-v-test.true c.loop-v.invariant.2 in
     omega (arith, known.small)
 
--- src/rows.rt:58:9
 pub offset_bounds-words-v : goal.offset_bounds-words-v
 offset_bounds-words-v c =
     let known = row-known c.loop-v.invariant.1 c.loop-v-test.true c.loop-v.invariant.2 in
     omega (arith, known.small)
 
--- src/rows.rt:58:9
 pub bounds-words-v : goal.bounds-words-v
 bounds-words-v c =
     let turn = c.loop-v in
     omega (arith, (node-known turn.invariant.1 turn.v c.loop-v-test.true).node.listed, c.keep_row-at.ensures.long)
 
--- src/rows.rt:59:9
-pub overflow_add-v : goal.overflow_add-v
-overflow_add-v c =
-    let known = row-known c.loop-v.invariant.1 c.loop-v-test.true c.loop-v.invariant.2 in
-    omega (arith, known.small)
-
--- src/rows.rt:55:5
 pub loop-v-smaller : goal.loop-v-smaller
 loop-v-smaller c = omega (arith, c.loop-v-test.true)
 
--- src/rows.rt:55:5
 pub loop-v-preserved : goal.loop-v-preserved
 loop-v-preserved c =
     let turn = c.loop-v in

@@ -8,6 +8,3 @@ use Rattle.lattice.proofs.words.turn_word.Given as goal
 abbrev pub invariant-loop-j : goal.invariant-loop-j
 invariant-loop-j l =
     (l.j ≤ l.n) × (word_of l.n (λ k. bit (get_or l.words k 0) l.i) ≡ l.word * 2 ^ l.j + word_of l.j (λ k. bit (get_or l.words k 0) l.i))
-
-abbrev pub decreases-loop-j : goal.decreases-loop-j
-decreases-loop-j l = l.j

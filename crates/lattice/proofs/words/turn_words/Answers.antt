@@ -2,7 +2,8 @@ use Prim.Native.Nat.{ℕ, ◌^◌, ◌<◌}
 use mathlib.Core.Path.{sym, ap, subst, ◌∙◌}
 use native.Mathlib.Omega.{arith}
 use lib.ListN.{length-replicate, get_or-replicate}
-use Rattle.lattice.specs.Words.{turned}
+use Rattle.std.proofs.Common.{get_or-take}
+use Rattle.lattice.specs.Words.{turned, Spread}
 use Rattle.lattice.proofs.Turning.{turned_none, turned-small, turned_more}
 use Rattle.lattice.proofs.words.turn_words.Goals as goal
 
@@ -22,7 +23,10 @@ loop-j-preserved c =
     let turn = c.loop-j in (
       omega (arith, c.loop-j-test.true),
       c.spread.ensures.long,
-      turned_more turn.j c.args.words.now _ _ c.spread.ensures turn.invariant.2,
+      turned_more turn.j c.args.words.now _ _
+          (subst (λ (w : ℕ). Spread w turn.j turn.result 0 c.spread.new.res)
+          (get_or-take c.args.n c.args.words.now turn.j 0 (omega (arith, c.loop-j-test.true, c.requires))) c.spread.ensures)
+          turn.invariant.2,
     )
 
 pub returns : goal.returns

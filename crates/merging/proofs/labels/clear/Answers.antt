@@ -17,12 +17,6 @@ overflow_mul-c c = omega (arith, c.loop-c-test.true, c.requires.2)
 pub put_label-requires : goal.put_label-requires
 put_label-requires c = omega (arith, c.loop-c-test.true, c.requires.2, c.loop-c.invariant.0.long)
 
-pub overflow_add-c : goal.overflow_add-c
-overflow_add-c c = omega (arith, c.loop-c-test.true, c.requires.2)
-
-pub loop-c-smaller : goal.loop-c-smaller
-loop-c-smaller c = omega (arith, c.loop-c-test.true)
-
 pub loop-c-preserved : goal.loop-c-preserved
 loop-c-preserved c = (cleared-step c.loop-c.invariant.0 c.requires.0 (omega (arith, c.loop-c-test.true, c.requires.2)) c.put_label.ensures, omega (arith, c.loop-c-test.true))
 

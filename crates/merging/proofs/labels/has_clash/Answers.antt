@@ -19,9 +19,6 @@ label_at-requires c = (c.requires, c.loop-x-test.true)
 pub returns-then-is_contradiction : goal.returns-then-is_contradiction
 returns-then-is_contradiction c = sym (c.loop-x.invariant.0 ∙ any_here (λ y. contradicts (label_at c.args.graph.now y)) c.loop-x.x _ c.loop-x-test.true (ap contradicts (sym c.label_at.ensures) ∙ sym c.is_contradiction.ensures ∙ c.if-is_contradiction.true))
 
-pub overflow_add-x : goal.overflow_add-x
-overflow_add-x c = omega (arith, c.loop-x-test.true, c.requires.few)
-
 pub loop-x-smaller : goal.loop-x-smaller
 loop-x-smaller c = omega (arith, c.loop-x-test.true)
 

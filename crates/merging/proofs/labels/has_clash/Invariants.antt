@@ -9,6 +9,3 @@ use Rattle.merging.proofs.labels.has_clash.Given as goal
 abbrev pub invariant-loop-x : goal.invariant-loop-x
 invariant-loop-x l =
     (any_of (from 0 l.nodes) (λ y. contradicts (label_at l.graph y)) ≡ any_of (from l.x (l.nodes - l.x)) (λ y. contradicts (label_at l.graph y))) × (l.x ≤ l.nodes)
-
-abbrev pub decreases-loop-x : goal.decreases-loop-x
-decreases-loop-x l = l.nodes - l.x

@@ -12,14 +12,8 @@ use Rattle.merging.proofs.labels.lower.Goals as goal
 pub bounds-graph-0 : goal.bounds-graph-0
 bounds-graph-0 c = omega (arith, directory c.requires.recorded.sound.shaped)
 
-pub overflow_cast-v : goal.overflow_cast-v
-overflow_cast-v c = omega (arith, c.requires.recorded.small)
-
 pub loop-v-init : goal.loop-v-init
 loop-v-init c = lower-start _ _ _ _ _ c.requires.shift_bound.1
-
-pub overflow_sub-v : goal.overflow_sub-v
-overflow_sub-v c = omega (arith, c.loop-v-test.true)
 
 pub overflow_add-c : goal.overflow_add-c
 overflow_add-c c = omega (arith, c.requires.shift_bound.0, c.loop-v.invariant.most, c.requires.recorded.small)
@@ -59,9 +53,6 @@ overflow_mul-c-in-loop-v c = omega (arith, (c.requires.by_index (c.loop-v.v - 1)
 
 pub put_label-requires : goal.put_label-requires
 put_label-requires c = omega (arith, (c.requires.by_index (c.loop-v.v - 1) (omega (arith, c.loop-v-test.true, c.loop-v.invariant.most))), c.loop-v.invariant.long)
-
-pub loop-v-smaller : goal.loop-v-smaller
-loop-v-smaller c = omega (arith, c.loop-v-test.true)
 
 pub loop-v-preserved : goal.loop-v-preserved
 loop-v-preserved c = let x = c.loop-v in lower-step x.invariant c.requires.lowerable.0 c.loop-v-test.true (c.requires.by_index (c.loop-v.v - 1) (omega (arith, c.loop-v-test.true, c.loop-v.invariant.most))) (c.put_label.ensures ∙ ap (put_label x.labels (header * get_or c.args.class.now (c.args.shift + (x.v - 1)) 0)) (c.meet-lower.ensures ∙ ap₂ (meet_ranged (meet_in c.args.n c.args.sets.now c.args.cells.now)) c.label_at.ensures c.label_from.ensures))

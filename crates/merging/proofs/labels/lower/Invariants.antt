@@ -6,6 +6,3 @@ use Rattle.merging.proofs.labels.lower.Given as goal
 abbrev pub invariant-loop-v : goal.invariant-loop-v
 invariant-loop-v l =
     Lowering (meet_in l.n l.sets l.cells) l.graph l.class l.shift l.initial.labels l.labels l.v
-
-abbrev pub decreases-loop-v : goal.decreases-loop-v
-decreases-loop-v l = l.v

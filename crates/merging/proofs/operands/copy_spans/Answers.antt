@@ -55,35 +55,11 @@ overflow_sub-next c = (row-near-end c.requires.recorded c.loop-v.v c.loop-v-test
 pub overflow_add-next-in-loop-v : goal.overflow_add-next-in-loop-v
 overflow_add-next-in-loop-v c = omega (arith, (row-near-end c.requires.recorded c.loop-v.v c.loop-v-test.true).1, c.requires.at_bound.0)
 
-pub overflow_add-start : goal.overflow_add-start
-overflow_add-start c = omega (arith, row_near c.requires.recorded c.loop-v.v c.loop-v-test.true, c.requires.at_bound.0)
+pub overflow_cast-spans : goal.overflow_cast-spans
+overflow_cast-spans c = omega (arith, row_near c.requires.recorded c.loop-v.v c.loop-v-test.true, c.requires.at_bound.0)
 
-pub overflow_cast-start : goal.overflow_cast-start
-overflow_cast-start c = omega (arith, row_near c.requires.recorded c.loop-v.v c.loop-v-test.true, c.requires.at_bound.0)
-
-pub overflow_add-start-in-loop-v : goal.overflow_add-start-in-loop-v
-overflow_add-start-in-loop-v c = omega (arith, c.loop-v-test.true, c.requires.recorded.small, c.requires.at_bound.1)
-
-pub offset_bounds-start-shift : goal.offset_bounds-start-shift
-offset_bounds-start-shift c = omega (arith, c.loop-v-test.true, c.requires.recorded.small, c.requires.at_bound.1)
-
-pub bounds-start-shift : goal.bounds-start-shift
-bounds-start-shift c = omega (arith, c.loop-v-test.true, c.requires.recorded.small, c.requires.at_bound.1, c.requires.at_bound.2, c.loop-v.invariant.0.start-long)
-
-pub overflow_cast-end : goal.overflow_cast-end
-overflow_cast-end c = omega (arith, (row-near-end c.requires.recorded c.loop-v.v c.loop-v-test.true).1, c.requires.at_bound.0)
-
-pub overflow_add-end : goal.overflow_add-end
-overflow_add-end c = omega (arith, c.loop-v-test.true, c.requires.recorded.small, c.requires.at_bound.1)
-
-pub offset_bounds-end-shift : goal.offset_bounds-end-shift
-offset_bounds-end-shift c = omega (arith, c.loop-v-test.true, c.requires.recorded.small, c.requires.at_bound.1)
-
-pub bounds-end-shift : goal.bounds-end-shift
-bounds-end-shift c = omega (arith, c.loop-v-test.true, c.requires.recorded.small, c.requires.at_bound.1, c.requires.at_bound.3, c.loop-v.invariant.0.end-long)
-
-pub overflow_add-v : goal.overflow_add-v
-overflow_add-v c = omega (arith, c.loop-v-test.true, c.requires.recorded.small)
+pub overflow_cast-spans-in-loop-v : goal.overflow_cast-spans-in-loop-v
+overflow_cast-spans-in-loop-v c = omega (arith, (row-near-end c.requires.recorded c.loop-v.v c.loop-v-test.true).1, c.requires.at_bound.0)
 
 pub loop-v-preserved : goal.loop-v-preserved
 loop-v-preserved c = (spans_step c.loop-v.invariant.0 (omega (arith, c.loop-v-test.true, c.requires.recorded.small, c.requires.at_bound.1, c.requires.at_bound.2)) (omega (arith, c.loop-v-test.true, c.requires.recorded.small, c.requires.at_bound.1, c.requires.at_bound.3)), omega (arith, c.loop-v-test.true))

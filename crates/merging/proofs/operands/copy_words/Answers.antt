@@ -1,9 +1,7 @@
-use Rattle.std.proofs.Common.{ℕ, ◌+◌, set, sym, subst, arith}
-use Rattle.layout.specs.Layout.{size}
-use Rattle.merging.specs.Rows.{WordsCopied}
+use Rattle.std.proofs.Common.{ℕ, ◌+◌, ◌%◌, ap, arith}
+use Rattle.layout.specs.Layout.{size, row_from, rows_end}
 use Rattle.layout.proofs.Order.{directory, rows_inside, row_low}
-use Rattle.layout.proofs.Sums.{words-few}
-use Rattle.merging.proofs.Copying.{words-start, words_step, words-done}
+use Rattle.merging.proofs.Copying.{part-word, part-long, words_step, words-done}
 use Rattle.merging.proofs.operands.copy_words.Goals as goal
 
 pub bounds-graph-0 : goal.bounds-graph-0
@@ -24,35 +22,23 @@ overflow_cast-end c = omega (arith, c.type_inv.graph (size c.args.graph.now + 1)
 pub bounds-graph-1 : goal.bounds-graph-1
 bounds-graph-1 c = omega (arith, directory c.requires.recorded.sound.shaped)
 
-pub overflow_cast-k : goal.overflow_cast-k
-overflow_cast-k c = omega (arith, c.type_inv.graph 1)
+pub slice_bounds-word-items-count : goal.slice_bounds-word-items-count
+slice_bounds-word-items-count c = row_low c.requires.recorded.sound.shaped _ (omega arith)
 
-pub loop-k-init : goal.loop-k-init
-loop-k-init c = (words-start _ _ _ _, omega arith, row_low c.requires.recorded.sound.shaped _ (omega arith), omega (arith, c.type_inv.graph (size c.args.graph.now + 1)))
+pub slice_bounds-word-items-start : goal.slice_bounds-word-items-start
+slice_bounds-word-items-start c = row_low c.requires.recorded.sound.shaped _ (omega arith)
 
-pub offset_bounds-graph-k : goal.offset_bounds-graph-k
-offset_bounds-graph-k c = omega (arith, c.loop-k-test.true, c.loop-k.invariant.3)
-
-pub bounds-graph-k : goal.bounds-graph-k
-bounds-graph-k c = omega (arith, rows_inside c.requires.recorded.sound.shaped, c.loop-k-test.true)
-
-pub offset_bounds-pool-next : goal.offset_bounds-pool-next
-offset_bounds-pool-next c = omega (arith, c.loop-k.invariant.0.counted, c.requires.at_bound.0, words-few c.requires.recorded, c.loop-k-test.true)
-
-pub bounds-pool-next : goal.bounds-pool-next
-bounds-pool-next c = omega (arith, c.loop-k.invariant.0.counted, c.loop-k.invariant.0.long, c.requires.at_bound.2, c.loop-k-test.true, c.loop-k.invariant.1)
-
-pub overflow_add-k : goal.overflow_add-k
-overflow_add-k c = omega (arith, c.loop-k-test.true, c.loop-k.invariant.3)
-
-pub overflow_add-next : goal.overflow_add-next
-overflow_add-next c = omega (arith, c.loop-k.invariant.0.counted, c.requires.at_bound.0, words-few c.requires.recorded, c.loop-k-test.true)
-
-pub loop-k-smaller : goal.loop-k-smaller
-loop-k-smaller c = omega (arith, c.loop-k-test.true)
-
-pub loop-k-preserved : goal.loop-k-preserved
-loop-k-preserved c = let x = c.loop-k in (subst (λ (z : ℕ). WordsCopied c.args.graph.now (x.k + 1) c.args.at c.args.shift c.args.pool.now (set x.pool x.next z) (x.next + 1)) (sym (c.wrapping_add_u16.ensures.value)) (words_step x.invariant.1 x.invariant.0 (omega (arith, x.invariant.0.counted, c.requires.at_bound.2, c.loop-k-test.true, x.invariant.1))), omega (arith, x.invariant.1), omega (arith, c.loop-k-test.true), x.invariant.3)
+pub loop-word-preserved : goal.loop-word-preserved
+loop-word-preserved c =
+    let ws = c.args.graph.now in
+    let long = part-long ws (row_from ws 0) (rows_end ws) (omega (arith, rows_inside c.requires.recorded.sound.shaped)) in
+    let i = c.loop-word.word-index in
+    words_step i c.loop-word.invariant (omega (arith, long, c.loop-word-test.true, c.loop-word.invariant.counted, c.requires.at_bound.2))
+    (ap (λ (w : ℕ). (w + c.args.shift) % 65536) (part-word ws (row_from ws 0) (rows_end ws) i (omega (arith, long, c.loop-word-test.true))))
 
 pub returns : goal.returns
-returns c = words-done c.loop-k.invariant.0 c.loop-k.invariant.2 c.loop-k-test.false
+returns c =
+    let ws = c.args.graph.now in
+    let low = row_low c.requires.recorded.sound.shaped (size ws) (omega arith) in
+    let long = part-long ws (row_from ws 0) (rows_end ws) (omega (arith, rows_inside c.requires.recorded.sound.shaped)) in
+    words-done c.loop-word.word-index c.loop-word.invariant (omega (arith, low, long, c.loop-word.auto.word-index-end, c.loop-word-test.false))

@@ -39,12 +39,6 @@ label_from-requires c = (omega (arith, (c.loop-x.invariant.0.given.classed c.loo
 pub put_label-requires : goal.put_label-requires
 put_label-requires c = omega (arith, fill-room c.loop-x.invariant.0 c.loop-x-test.true)
 
-pub offset_bounds-start-x : goal.offset_bounds-start-x
-offset_bounds-start-x c = omega (arith, c.loop-x-test.true, c.loop-x.invariant.0.given.few)
-
-pub bounds-start-x : goal.bounds-start-x
-bounds-start-x c = omega (arith, c.loop-x-test.true, c.loop-x.invariant.0.given.few)
-
 pub overflow_cast-row_start : goal.overflow_cast-row_start
 overflow_cast-row_start c = omega (arith, c.loop-x.invariant.0.given.rising c.loop-x.x c.loop-x-test.true)
 
@@ -68,9 +62,6 @@ offset_bounds-graph-x c = omega (arith, c.loop-x-test.true, c.loop-x.invariant.0
 
 pub bounds-graph-x : goal.bounds-graph-x
 bounds-graph-x c = fill-place c.loop-x.invariant.0 c.loop-x-test.true (c.put_label.ensures ∙ ap (put_label c.loop-x.graph c.loop-x.at) c.label_from.ensures) (rw c.end_of_row-row_end.ensures at c.copy_row-at.ensures)
-
-pub overflow_add-x : goal.overflow_add-x
-overflow_add-x c = omega (arith, c.loop-x-test.true, c.loop-x.invariant.0.given.few)
 
 pub loop-x-smaller : goal.loop-x-smaller
 loop-x-smaller c = omega (arith, c.loop-x-test.true)

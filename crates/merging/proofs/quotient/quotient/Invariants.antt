@@ -1,11 +1,8 @@
 -- `quotient` meets its contract. The loop's invariant: the rows of the nodes before x are built.
-use Rattle.std.proofs.Common.{◌≡◌, ◌-◌, length}
+use Rattle.std.proofs.Common.{◌≡◌, length}
 use Rattle.merging.proofs.Filling.{Filling}
 use Rattle.merging.proofs.quotient.quotient.Given as goal
 
 abbrev pub invariant-loop-x : goal.invariant-loop-x
 invariant-loop-x l =
-    Filling l.nodes l.class l.labels l.start l.end l.pool l.graph l.at l.x × (length l.graph ≡ length l.initial.graph)
-
-abbrev pub decreases-loop-x : goal.decreases-loop-x
-decreases-loop-x l = l.nodes - l.x
+    Filling l.nodes l.class l.labels l.spans.start l.spans.end l.pool l.graph l.at l.x × (length l.graph ≡ length l.initial.graph)

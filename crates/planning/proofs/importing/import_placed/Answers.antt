@@ -15,14 +15,14 @@ returns-then-not-are_stated c = unstated c.args.n c.args.nodes.now c.args.target
 pub fill-requires : goal.fill-requires
 fill-requires c = (record { fillable = fillable c.args.n c.args.nodes.now c.args.targets.now c.requires.1 c.are_stated.ensures c.if-not-are_stated.false; graph_len = search rules })
 
-pub judge-verdict-requires : goal.judge-verdict-requires
-judge-verdict-requires c = (record { shaped = (c.fill.ensures.shaped, c.fill.ensures.small); levels_ordered = λ e. let z : ◌≡◌ {A = ℕ} 0 1 = cc in absurd (omega arith) })
+pub judge-requires : goal.judge-requires
+judge-requires c = (record { shaped = (c.fill.ensures.shaped, c.fill.ensures.small); levels_ordered = λ e. let z : ◌≡◌ {A = ℕ} 0 1 = cc in absurd (omega arith) })
 
 pub of_graph-requires : goal.of_graph-requires
-of_graph-requires c = (told-accepted c.judge-verdict.ensures c.in-Accepted.is).holds.sound
+of_graph-requires c = (told-accepted c.judge.ensures c.in_default.is).holds.sound
 
-pub returns-in-Refused : goal.returns-in-Refused
-returns-in-Refused c = rewritten-refused (judged-as c.args.n c.args.nodes.now c.args.targets.now c.fill.ensures c.judge-verdict.ensures) c.args.out.now _ c.in-Refused.is
+pub returns-in-Err : goal.returns-in-Err
+returns-in-Err c = rewritten-refused (judged-as c.args.n c.args.nodes.now c.args.targets.now c.fill.ensures c.judge.ensures) c.args.out.now _ c.in-Err.is
 
-pub returns-in-Accepted : goal.returns-in-Accepted
-returns-in-Accepted c = c.of_graph.ensures ∙ rewritten-accepted (judged-as c.args.n c.args.nodes.now c.args.targets.now c.fill.ensures c.judge-verdict.ensures) c.args.out.now c.in-Accepted.is
+pub returns : goal.returns
+returns c = c.of_graph.ensures ∙ rewritten-accepted (judged-as c.args.n c.args.nodes.now c.args.targets.now c.fill.ensures c.judge.ensures) c.args.out.now c.in_default.is

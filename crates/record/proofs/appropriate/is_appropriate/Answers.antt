@@ -18,9 +18,6 @@ is_row_appropriate-requires c = (record { listed = c.requires.listed; typed = (c
 pub returns-then-not-is_row_appropriate : goal.returns-then-not-is_row_appropriate
 returns-then-not-is_row_appropriate c = rows_out c.args.table.now c.args.list.now c.args.graph.now c.loop-v.v c.loop-v-test.true (sym c.is_row_appropriate.ensures ∙ c.if-not-is_row_appropriate.true)
 
-pub overflow_add-v : goal.overflow_add-v
-overflow_add-v c = omega (arith, c.type_inv.graph 0)
-
 pub loop-v-smaller : goal.loop-v-smaller
 loop-v-smaller c = omega arith
 

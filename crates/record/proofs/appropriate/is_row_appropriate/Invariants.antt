@@ -1,10 +1,8 @@
--- `appropriate::is_row_appropriate` meets its contract. The loop's invariant: the links of v before place k are allowed.
-use Prim.Native.Nat.{◌-◌}
+-- `appropriate::is_row_appropriate` meets its contract. The loop's invariant: the links of v so far are allowed.
+use Prim.Native.Nat.{◌+◌}
+use Rattle.layout.specs.Layout.{links_from}
 use Rattle.record.proofs.Allowed.{RowAllowed}
 use Rattle.record.proofs.appropriate.is_row_appropriate.Given as goal
 
-abbrev pub invariant-loop-k : goal.invariant-loop-k
-invariant-loop-k l = RowAllowed l.table l.list l.graph l.v l.kind l.k
-
-abbrev pub decreases-loop-k : goal.decreases-loop-k
-decreases-loop-k l = l.end - l.k
+abbrev pub invariant-loop-link : goal.invariant-loop-link
+invariant-loop-link l = RowAllowed l.table l.list l.graph l.v l.kind (links_from l.graph l.v + l.link-index)

@@ -1,4 +1,5 @@
 -- `judging::judge` meets its contract: for each return a lemma gives the reading from what the two tests find.
+use Rattle.std.proofs.lemmas.Result.{err_from_is_err_and}
 use Rattle.peeling.proofs.Counting.{counted_start}
 use Rattle.record.proofs.Judged as judged
 use Rattle.record.proofs.judging.judge.Goals as goal
@@ -20,20 +21,16 @@ sources_first-requires c =
       counted = judged.counted c.args.n c.requires.shaped.0 c.requires.shaped.1 counted.ensures c.if-not-count_incoming.false;
     })
 
-pub returns-in-Cyclic : goal.returns-in-Cyclic
-returns-in-Cyclic c =
+pub returns-in_err-sources_first : goal.returns-in_err-sources_first
+returns-in_err-sources_first c =
     let counted = c.count_incoming in
-    judged.with-cycle c.args.n c.requires.shaped.0 c.requires.shaped.1 counted.ensures c.if-not-count_incoming.false
-    c.sources_first.ensures c.in-Cyclic.is
+    let given = err_from_is_err_and c.from_residual.result c.from_residual.ensures.1 in
+    rw (given.1, given.2)
+    (judged.refused-unrooted c.args.n c.requires.shaped.0 c.requires.shaped.1 counted.ensures c.if-not-count_incoming.false
+    c.sources_first.ensures _ c.in_err-sources_first.was)
 
-pub returns-in-Apart : goal.returns-in-Apart
-returns-in-Apart c =
-    let counted = c.count_incoming in
-    judged.unreached c.args.n c.requires.shaped.0 c.requires.shaped.1 counted.ensures c.if-not-count_incoming.false
-    c.sources_first.ensures c.in-Apart.is
-
-pub returns-in-Rooted : goal.returns-in-Rooted
-returns-in-Rooted c =
+pub returns : goal.returns
+returns c =
     let counted = c.count_incoming in
     judged.accepts c.args.n c.requires.shaped.0 c.requires.shaped.1 counted.ensures c.if-not-count_incoming.false
-    c.sources_first.ensures c.in-Rooted.is
+    c.sources_first.ensures c.in_ok-sources_first.was

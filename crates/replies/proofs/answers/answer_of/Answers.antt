@@ -1,80 +1,10 @@
--- `answers::answer_of` meets its contract: each reply has its answer, with the number that the contracts of its parts give.
+-- `answers::answer_of` meets its contract.
 use mathlib.Core.Path.{sym, ◌∙◌, ap}
-use Rattle.replies.specs.declared.answers.Answer.TheVariants.{Refused, RefusedGraph}
 use Rattle.replies.specs.Reply.{answer_of}
 use Rattle.replies.proofs.answers.answer_of.Goals as goal
 
-pub returns-in-Length : goal.returns-in-Length
-returns-in-Length c = ap answer_of (sym c.in-Length.is)
+pub returns-in-Ok : goal.returns-in-Ok
+returns-in-Ok c = c.success_answer.ensures ∙ ap answer_of (sym c.in-Ok.is)
 
-pub returns-in-Same : goal.returns-in-Same
-returns-in-Same c = ap answer_of (sym c.in-Same.is)
-
-pub returns-in-Under : goal.returns-in-Under
-returns-in-Under c = ap answer_of (sym c.in-Under.is)
-
-pub returns-in-Above : goal.returns-in-Above
-returns-in-Above c = ap answer_of (sym c.in-Above.is)
-
-pub returns-in-Neither : goal.returns-in-Neither
-returns-in-Neither c = ap answer_of (sym c.in-Neither.is)
-
-pub returns-in-Counts : goal.returns-in-Counts
-returns-in-Counts c = ap answer_of (sym c.in-Counts.is)
-
-pub returns-in-End : goal.returns-in-End
-returns-in-End c = ap answer_of (sym c.in-End.is)
-
-pub returns-in-Table : goal.returns-in-Table
-returns-in-Table c = ap Refused c.table_number.ensures ∙ ap answer_of (sym c.in-Table.is)
-
-pub returns-in-Graph : goal.returns-in-Graph
-returns-in-Graph c = ap (λ number. RefusedGraph number c.in-Graph.side) c.graph_number.ensures ∙ ap answer_of (sym c.in-Graph.is)
-
-pub returns-in-NoRoom : goal.returns-in-NoRoom
-returns-in-NoRoom c = ap answer_of (sym c.in-NoRoom.is)
-
-pub returns-in-Cycle : goal.returns-in-Cycle
-returns-in-Cycle c = ap answer_of (sym c.in-Cycle.is)
-
-pub returns-in-Clash : goal.returns-in-Clash
-returns-in-Clash c = ap answer_of (sym c.in-Clash.is)
-
-pub returns-in-TooLarge : goal.returns-in-TooLarge
-returns-in-TooLarge c = ap answer_of (sym c.in-TooLarge.is)
-
-pub returns-in-NotBelow : goal.returns-in-NotBelow
-returns-in-NotBelow c = ap answer_of (sym c.in-NotBelow.is)
-
-pub returns-in-NoWantedType : goal.returns-in-NoWantedType
-returns-in-NoWantedType c = ap answer_of (sym c.in-NoWantedType.is)
-
-pub returns-in-RowOutOfRange : goal.returns-in-RowOutOfRange
-returns-in-RowOutOfRange c = ap answer_of (sym c.in-RowOutOfRange.is)
-
-pub returns-in-RowTwice : goal.returns-in-RowTwice
-returns-in-RowTwice c = ap answer_of (sym c.in-RowTwice.is)
-
-pub returns-in-NothingGathered : goal.returns-in-NothingGathered
-returns-in-NothingGathered c = ap answer_of (sym c.in-NothingGathered.is)
-
-pub returns-in-TypeList : goal.returns-in-TypeList
-returns-in-TypeList c = ap answer_of (sym c.in-TypeList.is)
-
-pub returns-in-ReadingOrder : goal.returns-in-ReadingOrder
-returns-in-ReadingOrder c = ap answer_of (sym c.in-ReadingOrder.is)
-
-pub returns-in-WrongVersion : goal.returns-in-WrongVersion
-returns-in-WrongVersion c = ap answer_of (sym c.in-WrongVersion.is)
-
-pub returns-in-NoStoreRoom : goal.returns-in-NoStoreRoom
-returns-in-NoStoreRoom c = ap answer_of (sym c.in-NoStoreRoom.is)
-
-pub returns-in-NoReasonRoom : goal.returns-in-NoReasonRoom
-returns-in-NoReasonRoom c = ap answer_of (sym c.in-NoReasonRoom.is)
-
-pub returns-in-FeatureCount : goal.returns-in-FeatureCount
-returns-in-FeatureCount c = ap answer_of (sym c.in-FeatureCount.is)
-
-pub returns-in-NotListed : goal.returns-in-NotListed
-returns-in-NotListed c = ap answer_of (sym c.in-NotListed.is)
+pub returns-in-Err : goal.returns-in-Err
+returns-in-Err c = c.refusal_answer.ensures ∙ ap answer_of (sym c.in-Err.is)

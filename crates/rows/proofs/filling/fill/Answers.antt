@@ -33,9 +33,6 @@ offset_bounds-graph-v c = omega (arith, c.loop-v.invariant.fillable.few, c.loop-
 pub bounds-graph-v : goal.bounds-graph-v
 bounds-graph-v c = omega (arith, c.loop-v.invariant.fillable.few, c.loop-v-test.true, c.fill_row-at.ensures.long)
 
-pub overflow_add-v : goal.overflow_add-v
-overflow_add-v c = omega (arith, c.loop-v.invariant.fillable.few, c.loop-v-test.true)
-
 pub loop-v-smaller : goal.loop-v-smaller
 loop-v-smaller c = omega (arith, c.loop-v-test.true)
 

@@ -1,10 +1,6 @@
 -- `filling::fill_row` meets its contract. The loop's invariant: the links by features below f are stored.
-use Prim.Native.Nat.{◌-◌}
 use Rattle.rows.proofs.FilledRows.{Turn}
 use Rattle.rows.proofs.filling.fill_row.Given as goal
 
 abbrev pub invariant-loop-f : goal.invariant-loop-f
 invariant-loop-f l = Turn l.nodes l.targets l.v l.at l.initial.graph l.graph l.next l.f
-
-abbrev pub decreases-loop-f : goal.decreases-loop-f
-decreases-loop-f l = 64 - l.f

@@ -1,11 +1,12 @@
--- `lending::lend_rows` meets its contract. The loop's invariant: the rows before place k of node v are made.
-use Prim.Native.Nat.{◌+◌, ◌-◌}
-use Rattle.layout.specs.Layout.{rows_end}
+-- `lending::lend_rows` meets its contract. The loops' invariants: the rows of the nodes before v are made, and those of the links of v before
+-- this word.
+use Prim.Native.Nat.{◌+◌}
+use Rattle.layout.specs.Layout.{links_from}
 use Rattle.rows.proofs.LentRows.{Making}
 use Rattle.rows.proofs.lending.lend_rows.Given as goal
 
 abbrev pub invariant-loop-v : goal.invariant-loop-v
-invariant-loop-v l = Making l.graph l.all l.i l.v l.k
+invariant-loop-v l = Making l.graph l.initial.rows l.rows l.next l.v (links_from l.graph l.v)
 
-abbrev pub decreases-loop-v : goal.decreases-loop-v
-decreases-loop-v l = rows_end l.graph + 2 - l.k
+abbrev pub invariant-loop-word : goal.invariant-loop-word
+invariant-loop-word l = Making l.graph l.fn.rows l.rows l.next l.v (links_from l.graph l.v + l.word-index)

@@ -1,10 +1,6 @@
--- `placing::all_known` meets its contract. The loop's invariant: all rows are known exactly where those from i on are.
-use Prim.Native.Nat.{◌-◌, ◌≤◌}
+-- `placing::all_known` meets its contract. The loop's invariant: all rows are known exactly where those from here on are.
 use Rattle.rows.proofs.Known.{Left}
 use Rattle.rows.proofs.placing.all_known.Given as goal
 
-abbrev pub invariant-loop-i : goal.invariant-loop-i
-invariant-loop-i l = (l.i ≤ l.count) × Left l.nodes l.count l.all l.i
-
-abbrev pub decreases-loop-i : goal.decreases-loop-i
-decreases-loop-i l = l.count - l.i
+abbrev pub invariant-loop-row : goal.invariant-loop-row
+invariant-loop-row l = Left l.nodes l.rows l.row-index

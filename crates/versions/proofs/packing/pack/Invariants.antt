@@ -6,6 +6,3 @@ use Rattle.versions.proofs.packing.pack.Given as goal
 
 abbrev pub invariant-loop-version : goal.invariant-loop-version
 invariant-loop-version l = Packing l.n l.table l.slots l.part l.count (length l.initial.state) l.state l.at l.version
-
-abbrev pub decreases-loop-version : goal.decreases-loop-version
-decreases-loop-version l = l.count - l.version

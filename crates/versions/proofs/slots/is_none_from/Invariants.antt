@@ -5,6 +5,3 @@ use Rattle.versions.proofs.slots.is_none_from.Given as goal
 
 abbrev pub invariant-loop-v : goal.invariant-loop-v
 invariant-loop-v l = Seeking l.slots l.version l.v
-
-abbrev pub decreases-loop-v : goal.decreases-loop-v
-decreases-loop-v l = 16 - l.v

@@ -4,6 +4,3 @@ use Rattle.versions.proofs.slots.map_of.Given as goal
 
 abbrev pub invariant-loop-v : goal.invariant-loop-v
 invariant-loop-v l = MapFrom l.slots l.count l.bits l.v
-
-abbrev pub decreases-loop-v : goal.decreases-loop-v
-decreases-loop-v l = l.v

@@ -6,6 +6,3 @@ use Rattle.versions.proofs.unpacking.restore_all.Given as goal
 abbrev pub invariant-loop-version : goal.invariant-loop-version
 invariant-loop-version l =
     Restored l.n l.table l.part l.bits l.differences l.slots l.left l.at l.version
-
-abbrev pub decreases-loop-version : goal.decreases-loop-version
-decreases-loop-version l = 16 - l.version

@@ -4,17 +4,18 @@ use Rattle.layout.proofs.Places.{sized}
 use Rattle.visits.proofs.Visiting.{numbered, unmarked}
 use Rattle.visits.proofs.numbering.number.Goals as goal
 
-pub bounds-graph-0 : goal.bounds-graph-0
-bounds-graph-0 c = sized c.requires.sound
+pub size-requires : goal.size-requires
+size-requires c = sized c.requires.sound
 
 pub visit-requires : goal.visit-requires
 visit-requires c =
     let cleared = c.clear in
+    let white = rw c.size.ensures at cleared.ensures.by_index in
     record {
       sound = c.requires.sound;
-      marks = unmarked c.args.graph.now cleared.new.numbers c.args.visited.now cleared.ensures.numbers_len_2 c.requires.visited_len cleared.ensures.by_index;
+      marks = unmarked c.args.graph.now cleared.new.numbers c.args.visited.now cleared.ensures.numbers_len_2 c.requires.visited_len white;
       inside = c.requires.sound.shaped.nonempty;
-      fresh = cleared.ensures.by_index 0 c.requires.sound.shaped.nonempty;
+      fresh = white 0 c.requires.sound.shaped.nonempty;
       room = omega arith;
     }
 

@@ -1,6 +1,0 @@
--- Import of loaded rows answers the code of what the engine replies, and leaves the output that the engine leaves.
-use Rattle.record_engine.proofs.Codes.{codes}
-use Rattle.record_engine.proofs.import_coded.Goals as goal
-
-pub returns : goal.returns
-returns c = codes c.code.ensures c.import_loaded.ensures
