@@ -1,17 +1,18 @@
 // The reader of a record keeps the record's bytes and the position of the next byte together. The reader takes a byte, a feature map or a
-// label and moves behind it. One reader walks over the whole record.
+// label and moves behind it. One reader walks over the whole record. `byte_from` and `map_from` tell what a reader takes at a position, and
+// the position behind it.
 
 ghost use Rattle.std.specs.Prelude.{ℕ, ◌+◌, ◌<◌, ◌≤◌, ◌≡◌, ◌↔◌, IsTrue, drop, length, slice_index};
 ghost use Rattle.decode.specs.Word.{word_of};
-ghost use Rattle.decode.specs.Reader.{ByteStep, LabelStep, MapStep};
+ghost use Rattle.decode.specs.Reader.{ByteStep, LabelStep, MapStep, byte_step, map_step};
 
 use layout::Label;
 
 // A record's bytes and the position of the next byte, which is the end where no byte is left.
-#[derive(Drop)]
+#[derive(Clone, Copy)]
 pub struct Reader<'a> {
-    bytes: &'a [u8],
-    next: usize,
+    pub bytes: &'a [u8],
+    pub next: usize,
     ghost inside: { next ≤ length bytes.now },
     ghost small: { (i : ℕ) → slice_index bytes.now i < 256 },
 }
@@ -37,8 +38,8 @@ impl<'a> Reader<'a> {
         ensures same { self.new.bytes.now ≡ self.old.bytes.now }
         ensures step { ByteStep self.old.bytes.now self.old.next result self.new.next }
     {
-        let byte = *self.bytes.get(self.next)?;
-        self.next += 1;
+        let (byte, next) = byte_from(self.bytes, self.next)?;
+        self.next = next;
         Some(byte)
     }
 
@@ -47,11 +48,8 @@ impl<'a> Reader<'a> {
         ensures same { self.new.bytes.now ≡ self.old.bytes.now }
         ensures step { MapStep self.old.bytes.now self.old.next result self.new.next }
     {
-        if self.bytes.len() - self.next < 8 {
-            return None;
-        }
-        let map = map_at(self.bytes, self.next);
-        self.next += 8;
+        let (map, next) = map_from(self.bytes, self.next)?;
+        self.next = next;
         Some(map)
     }
 
@@ -77,6 +75,24 @@ impl<'a> Reader<'a> {
             highest,
         })
     }
+}
+
+// The byte at a position and the position behind it, or that the bytes end.
+pub fn byte_from(bytes: &[u8], at: usize) -> Option<(u8, usize)>
+    ensures { result ≡ byte_step bytes.now at }
+{
+    let byte = *bytes.get(at)?;
+    Some((byte, at + 1))
+}
+
+// The feature map of the eight bytes at a position and the position behind them, or that fewer bytes are left.
+pub fn map_from(bytes: &[u8], at: usize) -> Option<(u64, usize)>
+    ensures { result ≡ map_step bytes.now at }
+{
+    if bytes.len().saturating_sub(at) < 8 {
+        return None;
+    }
+    Some((map_at(bytes, at), at + 8))
 }
 
 // The feature map at a place, bit f for feature f.
