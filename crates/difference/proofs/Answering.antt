@@ -50,8 +50,6 @@ use Rattle.difference.specs.Explained.{Explained, explained_result, length_with_
 use Rattle.difference.specs.Writing.{WritesRows}
 use Rattle.difference.proofs.Result.{answers-wanted, made-canonical, made-reasons}
 use Rattle.difference.proofs.Along.{all-along, difference-along, reasons-along}
-use Rattle.groups.specs.declared.LinkMark.{LinkMark}
-use Rattle.groups.specs.declared.LinkMark.TheVariants as link_mark
 
 -- Words that hold acceptable rows.
 
@@ -82,7 +80,7 @@ asked-below n t g s given below =
     }
 
 -- With wanted labels and marks, the graphs meet what making the rows requires.
-pub prepared-below : (order : LinkOrder) (n : ℕ) (t g s : List ℕ) {map : List ℕ} {marks : List LinkMark} {labels : List ℕ} {wanted : Bool} → Asked n t g s map →
+pub prepared-below : (order : LinkOrder) (n : ℕ) (t g s : List ℕ) {map marks labels : List ℕ} {wanted : Bool} → Asked n t g s map →
     WantsAll n t s g map wanted labels → wanted ≡ true → MarkedBy (earlier_by order) s g map marks →
     Prepared (earlier_by order) n t g s map marks labels
 prepared-below order n t g s asked wants all marked =
@@ -188,7 +186,7 @@ noted-with-reasons (canonicalRows rows) marks out old = record-fits (leb (length
     record-fits true = marks-fit (leb (length marks) (length old))
     record-fits false = refl
 
-module _ {explained : Bool} {s : List ℕ} {marks : List LinkMark} {words : List ℕ} (out old : List ℕ) where
+module _ {explained : Bool} {s marks words : List ℕ} (out old : List ℕ) where
   -- The record is written without reasons.
   pub plain-written : explained ≡ false → {w : Writing} {r : Reply} {new : List ℕ} → yielding w new ≡ written_out (canonical eqb (graph_in words)) out → r ≡ reply_of w →
       WritesRows explained s marks words out old (explained_result r new old)
@@ -240,7 +238,7 @@ module _ (options : Options) (n : ℕ) (t g s out old : List ℕ) (given : Compa
         (differed-unwanted earlier n t out g s given.general map below (sym e ∙ is-wanted))
 
     -- Else the difference is written, with its reasons if they are asked for.
-    module _ (all : wanted ≡ true) {marks : List LinkMark} {words : List ℕ} (by : MarkedBy earlier s g map marks) (made : Made n t s marks labels words) where
+    module _ (all : wanted ≡ true) {marks words : List ℕ} (by : MarkedBy earlier s g map marks) (made : Made n t s marks labels words) where
       prepared : Prepared earlier n t g s map marks labels
       prepared = prepared-below options.order n t g s (asked-below n t g s given below) wants all by
 
@@ -262,6 +260,6 @@ module _ (options : Options) (n : ℕ) (t g s out old : List ℕ) (given : Compa
               (sym (made-reasons prepared made (writes.explains e))
               ∙ reasons-along n t (rows_of s) (rows_of g) map (loaded-rules given.general) below earlier)
 
--- As many fresh marks are lent as s has words.
-pub marks-fresh : (m : ℕ) (s : List ℕ) → length s ≤ m → length {A = LinkMark} (take (length s) (replicate m link_mark.Follows)) ≡ length s
-marks-fresh m s short = length-take-le (length s) (replicate m link_mark.Follows) (omega (arith, short, length-replicate {A = LinkMark} m link_mark.Follows))
+-- As many fresh bytes for marks are lent as s has words.
+pub marks-fresh : (m : ℕ) (s : List ℕ) → length s ≤ m → length {A = ℕ} (take (length s) (replicate m 0)) ≡ length s
+marks-fresh m s short = length-take-le (length s) (replicate m 0) (omega (arith, short, length-replicate {A = ℕ} m 0))

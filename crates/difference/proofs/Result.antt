@@ -56,9 +56,6 @@ use Rattle.difference.specs.Prepared.{Prepared}
 use Rattle.difference.proofs.Labels.{wants-known, meet_where-same}
 use Rattle.keeping.proofs.Thinning.{rows-sound, copied-feature, copied-target}
 use Rattle.reasons.proofs.Explaining.{reason-one, reason-two, reason-three}
-use Rattle.groups.specs.declared.LinkMark.{LinkMark}
-use Rattle.groups.proofs.Apart.{follows-leads, follows-bare, leads-bare}
-use Rattle.groups.specs.declared.LinkMark.TheVariants as link_mark
 
 -- A node that links reach is the end of a path.
 module _ {ws : List ℕ} (sound : Sound ws) where
@@ -121,7 +118,7 @@ module _ {n : ℕ} {t gw sw map : List ℕ} (asked : Asked n t gw sw map) where
           (link-at g-sound y i p.inside p.low p.high)) in
           (j, record { inside = over-inside asked y p.inside; low = a; high = b }, e)
 
-  pub markable-words : {marks : List LinkMark} {keep : List Bool} → length marks ≡ length sw → length keep ≡ 255 → Markable sw marks keep
+  pub markable-words : {marks keep : List ℕ} → length marks ≡ length sw → length keep ≡ 255 → Markable sw marks keep
   markable-words a b =
       record { sound = s-sound; small = asked.lower.small; short = asked.short; marks-long = a; keep-long = b }
 
@@ -156,7 +153,7 @@ module _ {n : ℕ} {t gw sw map : List ℕ} (asked : Asked n t gw sw map) where
   abbrev any : AnySize (table_labels n t) s
   any = asked.any-size
 
-  module _ {earlier : Link ℕ → Link ℕ → Bool} (strict : StrictOrder earlier) {marks : List LinkMark} {labels : List ℕ} {keeps : List Bool}
+  module _ {earlier : Link ℕ → Link ℕ → Bool} (strict : StrictOrder earlier) {marks labels keeps : List ℕ}
       (marked : Marked earlier sw gw map marks) (wants : Wants n t sw gw map (size sw) labels) (code : Keeps n t sw marks labels keeps) where
     abbrev first : ℕ → Link ℕ → Link ℕ
     first v l = lead eqb eqb s (from 0 (size sw)) g (from 0 (size gw)) over earlier v l
@@ -170,8 +167,8 @@ module _ {n : ℕ} {t gw sw map : List ℕ} (asked : Asked n t gw sw map) where
     read : (k : ℕ) (l : Link ℕ) (at : At sw k l) → says k l at
     read k l at = mark-says n t lying-words operands asked.lies strict marked k l at
 
-    -- A link whose mark is not `Follows` leads its group.
-    marked-leads : (k : ℕ) (l : Link ℕ) (at : At sw k l) → (get_or marks k link_mark.Follows ≡ link_mark.Follows → ⊥) → Leader s first (target_at sw k) l
+    -- A link whose mark is not 0 leads its group.
+    marked-leads : (k : ℕ) (l : Link ℕ) (at : At sw k l) → (get_or marks k 0 ≡ 0 → ⊥) → Leader s first (target_at sw k) l
     marked-leads k l at d = go (read k l at)
       where
         go : says k l at → Leader s first (target_at sw k) l
@@ -179,25 +176,25 @@ module _ {n : ℕ} {t gw sw map : List ℕ} (asked : Asked n t gw sw map) where
         go (leads-covered e x z c) = x
         go (leads_bare e x c) = x
 
-    -- A link that leads its group stands at a place whose mark is not `Follows`.
+    -- A link that leads its group stands at a place whose mark is not 0.
     leads-marked : (v : ℕ) (l : Link ℕ) → Leader s first v l →
-        (k : ℕ) × At sw k l × (target_at sw k ≡ v) × (get_or marks k link_mark.Follows ≡ link_mark.Follows → ⊥)
+        (k : ℕ) × At sw k l × (target_at sw k ≡ v) × (get_or marks k 0 ≡ 0 → ⊥)
     leads-marked v l (i, e) =
         let (k, at, w) = link-stands s-sound l v (reached-inside s-sound l.0 i.0) i.1 in
         (k, at, w, go k at w (read k l at))
       where
-        go : (k : ℕ) (at : At sw k l) → target_at sw k ≡ v → says k l at → get_or marks k link_mark.Follows ≡ link_mark.Follows → ⊥
+        go : (k : ℕ) (at : At sw k l) → target_at sw k ≡ v → says k l at → get_or marks k 0 ≡ 0 → ⊥
         go k at w (follows-it q x) z = x (ap (λ u. first u l) w ∙ e)
-        go k at w (leads-covered q x y c) z = follows-leads z q
-        go k at w (leads_bare q x c) z = follows-bare z q
+        go k at w (leads-covered q x y c) z = omega (arith, q, z)
+        go k at w (leads_bare q x c) z = omega (arith, q, z)
 
     bare-marked : (v : ℕ) (l : Link ℕ) → Leader s first v l → ((z : ℕ) → Enters {L = Label} g over z l → ⊥) →
-        (k : ℕ) × At sw k l × (target_at sw k ≡ v) × (get_or marks k link_mark.Follows ≡ link_mark.Bare)
+        (k : ℕ) × At sw k l × (target_at sw k ≡ v) × (get_or marks k 0 ≡ 2)
     bare-marked v l (i, e) nothing =
         let (k, at, w) = link-stands s-sound l v (reached-inside s-sound l.0 i.0) i.1 in
         (k, at, w, go k at w (read k l at))
       where
-        go : (k : ℕ) (at : At sw k l) → target_at sw k ≡ v → says k l at → get_or marks k link_mark.Follows ≡ link_mark.Bare
+        go : (k : ℕ) (at : At sw k l) → target_at sw k ≡ v → says k l at → get_or marks k 0 ≡ 2
         go k at w (follows-it q x) = absurd (x (ap (λ u. first u l) w ∙ e))
         go k at w (leads-covered q x y c) = absurd (nothing y c)
         go k at w (leads_bare q x c) = q
@@ -209,7 +206,7 @@ module _ {n : ℕ} {t gw sw map : List ℕ} (asked : Asked n t gw sw map) where
     -- Kept nodes.
 
     Same : ℕ → Type 0
-    Same v = (get_or keeps v false ≡ true) ↔ (is_kept v ≡ true)
+    Same v = (get_or keeps v 0 ≡ 1) ↔ (is_kept v ≡ true)
 
     idle-why : (v : ℕ) → Reached s v → ((f w : ℕ) → s.link v f ≡ some w → Same w) → is_kept v ≡ false →
         Idle (table_labels n t) s g over first is_kept want v → Why n t sw marks labels keeps v → ⊥
@@ -230,8 +227,8 @@ module _ {n : ℕ} {t gw sw map : List ℕ} (asked : Asked n t gw sw map) where
         (read a.place (a.node, feature_at sw a.place) (at_row a.node a.place a.link))
       where
         go : (x : Link ℕ) (at : At sw a.place x) → says a.place x at → ⊥
-        go x at (follows-it q y) = follows-bare q m
-        go x at (leads-covered q y z c) = leads-bare q m
+        go x at (follows-it q y) = omega (arith, q, m)
+        go x at (leads-covered q y z c) = omega (arith, q, m)
         go x at (leads_bare q y c) = let (z, d) = idle.covered x (subst (λ u. Leader s first u x) a.enters y) in c z d
     idle-why v r later e idle (untop q) =
         true-false idle.no_label
@@ -251,12 +248,12 @@ module _ {n : ℕ} {t gw sw map : List ℕ} (asked : Asked n t gw sw map) where
         let (i, ati, q, y) = leads-marked v m b in
         go j atj p x i ati q y (dec_lt j i) (dec_lt i j)
       where
-        standing : {u l₀ : ℕ} {l : Link ℕ} (i : ℕ) → At sw i l → i < l₀ → (get_or marks i link_mark.Follows ≡ link_mark.Follows → ⊥) → target_at sw i ≡ u →
+        standing : {u l₀ : ℕ} {l : Link ℕ} (i : ℕ) → At sw i l → i < l₀ → (get_or marks i 0 ≡ 0 → ⊥) → target_at sw i ≡ u →
             Leads sw marks l₀ u
         standing {l = l} i at h x q = record { node = l.0; place = i; link = at.place; before = h; leading = x; enters = q }
 
-        go : (j : ℕ) → At sw j l → target_at sw j ≡ v → (get_or marks j link_mark.Follows ≡ link_mark.Follows → ⊥) → (i : ℕ) → At sw i m → target_at sw i ≡ v →
-            (get_or marks i link_mark.Follows ≡ link_mark.Follows → ⊥) → Dec (j < i) → Dec (i < j) → Cause sw marks (rows_end sw) v
+        go : (j : ℕ) → At sw j l → target_at sw j ≡ v → (get_or marks j 0 ≡ 0 → ⊥) → (i : ℕ) → At sw i m → target_at sw i ≡ v →
+            (get_or marks i 0 ≡ 0 → ⊥) → Dec (j < i) → Dec (i < j) → Cause sw marks (rows_end sw) v
         go j atj p x i ati q y (yes h) d =
             (several (standing i ati (place-before s-sound.shaped ati.place) y q) (standing j atj h x p))
         go j atj p x i ati q y (no h) (yes d) =
@@ -282,7 +279,7 @@ module _ {n : ℕ} {t gw sw map : List ℕ} (asked : Asked n t gw sw map) where
           place = k;
           link = at.place;
           before = place-before s-sound.shaped at.place;
-          leading = λ z. follows-bare z m;
+          leading = λ z. omega (arith, m, z);
           enters = p;
         })
         m)
@@ -294,7 +291,7 @@ module _ {n : ℕ} {t gw sw map : List ℕ} (asked : Asked n t gw sw map) where
           k,
           at.place.low,
           at.place.high,
-          record { leads = m; enters = ap (λ (x : ℕ). get_or keeps x false) p ∙ (later f w a.0.1).1 e },
+          record { leads = m; enters = ap (λ (x : ℕ). get_or keeps x 0) p ∙ (later f w a.0.1).1 e },
         )
 
     -- The code keeps a node exactly where the definition of the difference keeps it.
@@ -311,7 +308,7 @@ module _ {n : ℕ} {t gw sw map : List ℕ} (asked : Asked n t gw sw map) where
             h : v < size sw
             h = reached-inside s-sound v r
 
-            there : (b : Bool) → is_kept v ≡ b → get_or keeps v false ≡ true → is_kept v ≡ true
+            there : (b : Bool) → is_kept v ≡ b → get_or keeps v 0 ≡ 1 → is_kept v ≡ true
             there true q e = q
             there false q e =
                 absurd (idle-why v r later q (keep-idle operands over any earlier want v r q) (code.why v h e))
@@ -343,7 +340,7 @@ module _ {n : ℕ} {t gw sw map : List ℕ} (asked : Asked n t gw sw map) where
           let l : Leader s first w (v, f) = subst (λ u. Leader s first u (v, f)) ew (marked-leads k (v, f) at stays.leads) in
           (kept-links operands over any earlier want v f w r).1 (
             l,
-            (kept_same w (reached-link s f r l.0.1)).0 (ap (λ (x : ℕ). get_or keeps x false) (sym ew) ∙ stays.enters),
+            (kept_same w (reached-link s f r l.0.1)).0 (ap (λ (x : ℕ). get_or keeps x 0) (sym ew) ∙ stays.enters),
           )
 
       backward : (v f w : ℕ) → Reached s v → kept_at v f ≡ some w → result.link v f ≡ some w
@@ -353,7 +350,7 @@ module _ {n : ℕ} {t gw sw map : List ℕ} (asked : Asked n t gw sw map) where
           let (l, d) = (kept-links operands over any earlier want v f w r).0 e in
           let (k, at, p, m) = leads-marked w (v, f) l in
           let stays : Stays sw marks keeps k =
-          record { leads = m; enters = ap (λ (x : ℕ). get_or keeps x false) p ∙ (kept_same w (reached-link s f r l.0.1)).1 d } in
+          record { leads = m; enters = ap (λ (x : ℕ). get_or keeps x 0) p ∙ (kept_same w (reached-link s f r l.0.1)).1 d } in
           let (i, low, high, c) = rows.1.all v k h at.place stays in
           ap (result.link v) (sym (copied-feature c ∙ at.feature)) ∙ link-at sound' v i (inside' v h) low high ∙
           ap some (copied-target c ∙ p)
@@ -413,14 +410,14 @@ module _ {n : ℕ} {t gw sw map : List ℕ} (asked : Asked n t gw sw map) where
       reason l v = reason_at eqb eqb s (from 0 (size sw)) g (from 0 (size gw)) over earlier l v
 
       module _ {reasons : List ℕ} (explained : Explains sw marks ws reasons) where
-        -- Two links that lead groups at v differ. Where a link with the mark `Leads` enters v, this holds exactly if v has a cause to be kept.
+        -- Two links that lead groups at v differ. Where a link with the mark 1 enters v, this holds exactly if v has a cause to be kept.
         abbrev apart : ℕ → Bool
         apart v = differ eqb eqb s (from 0 (size sw)) g (from 0 (size gw)) over (leaders eqb eqb s (from 0 (size sw)) g (from 0 (size gw)) over earlier v)
 
         listed : (v : ℕ) (l : Link ℕ) → Memᴰ l (leaders eqb eqb s (from 0 (size sw)) g (from 0 (size gw)) over earlier v) ↔ Leader s first v l
         listed v l = leaders-listed operands over any earlier want v l
 
-        cause-apart : (k : ℕ) (l : Link ℕ) → At sw k l → Leader s first (target_at sw k) l → get_or marks k link_mark.Follows ≡ link_mark.Leads →
+        cause-apart : (k : ℕ) (l : Link ℕ) → At sw k l → Leader s first (target_at sw k) l → get_or marks k 0 ≡ 1 →
             Cause sw marks (rows_end sw) (target_at sw k) → apart (target_at sw k) ≡ false → ⊥
         cause-apart k l at lead mark cause e = go cause
           where
@@ -448,9 +445,12 @@ module _ {n : ℕ} {t gw sw map : List ℕ} (asked : Asked n t gw sw map) where
                 let x : Link ℕ = (a.node, feature_at sw a.place) in
                 let z : x ≡ l = same x l (leader a) lead in
                 let q = at_one s-sound a.place k l (subst (At sw a.place) z (at_row a.node a.place a.link)) at in
-                leads-bare (ap (λ (i : ℕ). get_or marks i link_mark.Follows) q ∙ mark) m
+                one-two (sym (ap (λ (i : ℕ). get_or marks i 0) q ∙ mark) ∙ m)
+              where
+                one-two : ◌≡◌ {A = ℕ} 1 2 → ⊥
+                one-two q = omega arith
 
-        reason-by : (k : ℕ) (l : Link ℕ) (at : At sw k l) → (get_or marks k link_mark.Follows ≡ link_mark.Follows → ⊥) →
+        reason-by : (k : ℕ) (l : Link ℕ) (at : At sw k l) → (get_or marks k 0 ≡ 0 → ⊥) →
             reason_by sw marks explained.meeting k ≡ reason l (target_at sw k)
         unfolding reason_at
         reason-by k l at d = go (read k l at)
@@ -458,7 +458,7 @@ module _ {n : ℕ} {t gw sw map : List ℕ} (asked : Asked n t gw sw map) where
             low : target_at sw k < 255
             low = omega (arith, s-sound.targets l.0 k at.place.inside at.place.low at.place.high, asked.lower.small)
 
-            meets : (get_or explained.meeting (target_at sw k) false ≡ true) ↔ Cause sw marks (rows_end sw) (target_at sw k)
+            meets : (get_or explained.meeting (target_at sw k) 0 ≡ 1) ↔ Cause sw marks (rows_end sw) (target_at sw k)
             meets = explained.meets (target_at sw k) low
 
             is-bare : (b : Bool) → bare eqb eqb s (from 0 (size sw)) g (from 0 (size gw)) over l ≡ b →
@@ -471,15 +471,15 @@ module _ {n : ℕ} {t gw sw map : List ℕ} (asked : Asked n t gw sw map) where
             not-bare false e z c = e
             not-bare true e z c = absurd (bare-enters operands over l e z c)
 
-            covered : get_or marks k link_mark.Follows ≡ link_mark.Leads → Leader s first (target_at sw k) l → (b : Bool) → apart (target_at sw k) ≡ b →
+            covered : get_or marks k 0 ≡ 1 → Leader s first (target_at sw k) l → (b : Bool) → apart (target_at sw k) ≡ b →
                 reason_by sw marks explained.meeting k ≡ cond (apart (target_at sw k)) 2 3
             covered mark lead true e =
                 let (x, y, i, j, d) = differ-two operands over any earlier want _ e in
-                reason-two (get_or marks k link_mark.Follows) (get_or explained.meeting (target_at sw k) false) (leads-bare mark)
+                reason-two (get_or marks k 0) (get_or explained.meeting (target_at sw k) 0) (λ q. omega (arith, mark, q))
                 (meets.1 (two-cause (target_at sw k) x y ((listed (target_at sw k) x).0 i) ((listed (target_at sw k) y).0 j) d))
                 ∙ sym (ap (λ (b : Bool). cond b 2 3) e)
             covered mark lead false e =
-                reason-three (get_or marks k link_mark.Follows) (get_or explained.meeting (target_at sw k) false) (leads-bare mark)
+                reason-three (get_or marks k 0) (get_or explained.meeting (target_at sw k) 0) (λ q. omega (arith, mark, q))
                 (λ q. cause-apart k l at lead mark (meets.0 q) e)
                 ∙ sym (ap (λ (b : Bool). cond b 2 3) e)
 
@@ -490,7 +490,7 @@ module _ {n : ℕ} {t gw sw map : List ℕ} (asked : Asked n t gw sw map) where
                 covered e x (apart (target_at sw k)) refl
                 ∙ sym (ap (λ (b : Bool). cond b 1 (cond (apart (target_at sw k)) 2 3)) (not-bare _ refl z c))
             go (leads_bare e x c) =
-                reason-one (get_or marks k link_mark.Follows) (get_or explained.meeting (target_at sw k) false) e
+                reason-one (get_or marks k 0) (get_or explained.meeting (target_at sw k) 0) e
                 ∙ sym (ap (λ (b : Bool). cond b 1 (cond (apart (target_at sw k)) 2 3)) (is-bare _ refl c))
 
         reason-is : (v i : ℕ) → Place ws v i → get_or reasons i 0 ≡ reason (v, feature_at ws i) (target_at ws i)
@@ -519,7 +519,7 @@ module _ {n : ℕ} {t gw sw map : List ℕ} (asked : Asked n t gw sw map) where
             order = bisimilar-order eqb eqb tells-eqb tells-eqb (λ x y. Reached s x × (x ≡ y)) made result made_alike
 
 -- The rows that are made.
-module _ {earlier : Link ℕ → Link ℕ → Bool} {n : ℕ} {t gw sw map : List ℕ} {marks : List LinkMark} {labels words : List ℕ}
+module _ {earlier : Link ℕ → Link ℕ → Bool} {n : ℕ} {t gw sw map marks labels words : List ℕ}
     (given : Prepared earlier n t gw sw map marks labels) (made : Made n t sw marks labels words) where
   few-types : n ≤ 64
   few-types = (accepted-size n t given.asked.ok).1

@@ -6,16 +6,15 @@ use Rattle.layout.specs.Layout.{size}
 use Rattle.groups.specs.Marks.{Marked}
 use Rattle.wanting.specs.Asked.{Asked}
 use Rattle.wanting.specs.Wanted.{Wants}
-use Rattle.groups.specs.declared.LinkMark.{LinkMark}
 
 -- The links of s are marked by an order of links, and the nodes of s have their wanted labels.
-pub record Prepared (earlier : Link ℕ → Link ℕ → Bool) (n : ℕ) (t g s map : List ℕ) (marks : List LinkMark) (labels : List ℕ) : Type 0 where
+pub record Prepared (earlier : Link ℕ → Link ℕ → Bool) (n : ℕ) (t g s map marks labels : List ℕ) : Type 0 where
   pub asked : Asked n t g s map
   pub wants : Wants n t s g map (size s) labels
   pub strict : StrictOrder earlier
   pub marked : Marked earlier s g map marks
 
 -- There exist a link order, a g and a map for which `Prepared` holds.
-abbrev pub Preparable : ℕ → List ℕ → List ℕ → List LinkMark → List ℕ → Type 0
+abbrev pub Preparable : ℕ → List ℕ → List ℕ → List ℕ → List ℕ → Type 0
 Preparable n t s marks labels =
     (earlier : Link ℕ → Link ℕ → Bool) × (g : List ℕ) × (map : List ℕ) × Prepared earlier n t g s map marks labels

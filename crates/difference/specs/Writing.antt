@@ -8,11 +8,10 @@ use Rattle.encode.specs.Marks.{marks_along}
 use Rattle.replies.specs.Reply.{result_of}
 use Rattle.reasons.specs.Explaining.{Explains}
 use Rattle.difference.specs.Explained.{Explained, with_reasons_if}
-use Rattle.groups.specs.declared.LinkMark.{LinkMark}
 
 -- The record of the rows is written and, if `explained`, the reasons for its links are written too. `held` has the reasons at the places of
 -- the links.
-pub record WritesRows (explained : Bool) (s : List ℕ) (marks : List LinkMark) (words out old : List ℕ) (result : Explained) : Type 0 where
+pub record WritesRows (explained : Bool) (s marks words out old : List ℕ) (result : Explained) : Type 0 where
   pub held : List ℕ
   pub explains : explained ≡ true → Explains s marks words held
   pub is : result ≡

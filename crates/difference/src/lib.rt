@@ -5,7 +5,7 @@
 
 #![tactic(auto)]
 
-ghost use Rattle.std.specs.Prelude.{◌≡◌, Bool, List, length};
+ghost use Rattle.std.specs.Prelude.{◌≡◌, List, ℕ, length};
 ghost use Rattle.link_orders.specs.LinkOrders.{Fitting};
 ghost use Rattle.keeping.specs.Keeping.{Markable};
 ghost use Rattle.reasons.specs.Explaining.{Copied, Made};
@@ -15,7 +15,6 @@ ghost use Rattle.difference.specs.Explained.{differed_words, explained_result};
 ghost use Rattle.difference.specs.Writing.{WritesRows};
 ghost use Rattle.replies.specs.Replies.{told};
 
-use groups::LinkMark;
 use link_orders::LinkOrder;
 use replies::Refusal;
 
@@ -43,10 +42,10 @@ pub fn difference<'a>(
 {
     let words = s.len();
     if words <= layout::SHORT {
-        let mut marks = [LinkMark::Follows; layout::SHORT];
+        let mut marks = [0u8; layout::SHORT];
         return difference_in(n, table, options, g, s, &mut marks[..words], out, reasons);
     }
-    let mut marks = [LinkMark::Follows; layout::LONGEST];
+    let mut marks = [0u8; layout::LONGEST];
     difference_in(n, table, options, g, s, &mut marks[..words], out, reasons)
 }
 
@@ -57,7 +56,7 @@ fn difference_in<'a>(
     options: Options,
     g: &mut [u16],
     s: &'a [u16],
-    marks: &mut [LinkMark],
+    marks: &mut [u8],
     out: &mut [u8],
     reasons: &mut [u8],
 ) -> Result<usize, Refusal>
@@ -83,14 +82,14 @@ fn make<'a>(
     n: usize,
     table: &'a [u8],
     s: &'a [u16],
-    marks: &'a [LinkMark],
+    marks: &'a [u8],
     labels: &'a [u16; 510],
     words: &mut [u16],
 )
     requires { Preparable n table.now s.now marks.now labels.now × (length words.old ≡ length s.now) }
     ensures { Made n table.now s.now marks.now labels.now words.new }
 {
-    let mut keep = [false; 255];
+    let mut keep = [0u8; 255];
     keeping::keep::kept_nodes(n, table, s, marks, labels, &mut keep);
     keeping::rows::kept_links(s, marks, &keep, labels, words)
 }
@@ -99,12 +98,12 @@ fn make<'a>(
 fn write_rows<'a>(
     explained: bool,
     s: &'a [u16],
-    marks: &'a [LinkMark],
+    marks: &'a [u8],
     words: &'a [u16],
     out: &mut [u8],
     reasons: &mut [u8],
 ) -> Result<usize, Refusal>
-    requires { ((meeting : List Bool) → length meeting ≡ 255 → Markable s.now marks.now meeting) × Copied s.now words.now }
+    requires { ((meeting : List ℕ) → length meeting ≡ 255 → Markable s.now marks.now meeting) × Copied s.now words.now }
     ensures { WritesRows explained s.now marks.now words.now out.old reasons.old
         (explained_result (told result) out.new reasons.new) }
 {

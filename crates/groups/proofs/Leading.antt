@@ -1,5 +1,5 @@
--- The marks say which links of s lead their groups. A link has the mark `Leads` or `Bare` exactly where it is the least of its group, and
--- `Bare` exactly where nothing of g lies over it.
+-- The marks say which links of s lead their groups. A link has the mark 1 or 2 exactly where it is the least of its group, and 2 exactly
+-- where nothing of g lies over it.
 use mathlib.Core.Path.{◌≡◌, refl, sym, ◌∙◌, ap, subst}
 use mathlib.Core.Bool.{Bool, true, false}
 use mathlib.Core.List.{List}
@@ -29,8 +29,6 @@ use Rattle.layout.proofs.Order.{place-before, one-row, one-feature}
 use Rattle.cover.specs.Cover.{Lying, Covers, Tied, same, shared, back, next, Grouping}
 use Rattle.groups.specs.Marks.{Earlier, Together, Mark, follows, leads, bare, Marked}
 use Rattle.cover.proofs.Covering.{owner-low}
-use Rattle.groups.specs.declared.LinkMark.{LinkMark}
-use Rattle.groups.specs.declared.LinkMark.TheVariants as link_mark
 pub use Rattle.groups.specs.Marks.{At}
 
 -- Places of one graph.
@@ -256,17 +254,17 @@ module _ (n : ℕ) (t : List ℕ) {sw gw map : List ℕ} (lying : Lying sw gw ma
           (ap (earlier m) (sym e) ∙
           lead-least operands lies earlier strict (target_at sw k) l m i (together-grouped k j l m a b (together-sym t)))
 
-  module _ {earlier : Link ℕ → Link ℕ → Bool} (strict : StrictOrder earlier) {marks : List LinkMark} (marked : Marked earlier sw gw map marks)
+  module _ {earlier : Link ℕ → Link ℕ → Bool} (strict : StrictOrder earlier) {marks : List ℕ} (marked : Marked earlier sw gw map marks)
       (k : ℕ) (l : Link ℕ) (at : At sw k l) where
     into : Into s (target_at sw k) l
     into = ((operands.lists-left.listed l.0).1 (from_member 0 (size sw) l.0 (omega arith) (omega (arith, at.place.inside))), at-link s-sound k l at)
 
     -- What the mark of a place says of the link there.
     pub data Says : Type 0 where
-      follows-it : get_or marks k link_mark.Follows ≡ link_mark.Follows → (lead eqb eqb s (from 0 (size sw)) g (from 0 (size gw)) over earlier (target_at sw k) l ≡ l → ⊥) → Says
-      leads-covered : get_or marks k link_mark.Follows ≡ link_mark.Leads → Leader s (lead eqb eqb s (from 0 (size sw)) g (from 0 (size gw)) over earlier) (target_at sw k) l →
+      follows-it : get_or marks k 0 ≡ 0 → (lead eqb eqb s (from 0 (size sw)) g (from 0 (size gw)) over earlier (target_at sw k) l ≡ l → ⊥) → Says
+      leads-covered : get_or marks k 0 ≡ 1 → Leader s (lead eqb eqb s (from 0 (size sw)) g (from 0 (size gw)) over earlier) (target_at sw k) l →
           (z : ℕ) → Goes z l → Says
-      leads_bare : get_or marks k link_mark.Follows ≡ link_mark.Bare → Leader s (lead eqb eqb s (from 0 (size sw)) g (from 0 (size gw)) over earlier) (target_at sw k) l →
+      leads_bare : get_or marks k 0 ≡ 2 → Leader s (lead eqb eqb s (from 0 (size sw)) g (from 0 (size gw)) over earlier) (target_at sw k) l →
           ((z : ℕ) → Goes z l → ⊥) → Says
 
     pub mark-says : Says
@@ -275,7 +273,7 @@ module _ (n : ℕ) (t : List ℕ) {sw gw map : List ℕ} (lying : Lying sw gw ma
         grouping : Grouping sw gw map (rows_end gw) marked.owner marked.parent
         grouping = marked.grouping
 
-        go : Mark marked.owner marked.parent (Earlier earlier sw) k (get_or marks k link_mark.Follows) → Says
+        go : Mark marked.owner marked.parent (Earlier earlier sw) k (get_or marks k 0) → Says
         go (follows e j h w t) = follows-it e (place-follows grouping strict j k l at into w t)
         go (leads e o alone) =
             leads-covered e (into, place-leads grouping strict k l at into alone) (get_or marked.owner k 0)

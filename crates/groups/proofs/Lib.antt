@@ -3,4 +3,4 @@ pub mod Owning
 pub mod Marking
 pub mod Ordering
 pub mod Leading
-pub mod Apart
+pub mod LinkMarks

@@ -29,8 +29,6 @@ use Rattle.groups.specs.Marks.{
   stands-bare,
   Marking,
 }
-use Rattle.groups.specs.declared.LinkMark.{LinkMark}
-use Rattle.groups.specs.declared.LinkMark.TheVariants as link_mark
 
 -- The parent of an owner is the root of its class, and it is a node.
 module _ {nodes : ℕ} {parent : List ℕ} (flat : Flat nodes parent) {x : ℕ} (small : x < nodes) where
@@ -68,10 +66,10 @@ module _ {s owner parent : List ℕ} (o : Owned s owner parent) where
       omega (arith, class-is o.flat low, class_low o.flat low, o.few)
 
 -- What is known when the link at place k is met.
-abbrev pub Turn : (s owner parent rank : List ℕ) (k : ℕ) (lead : List ℕ) (marks : List LinkMark) → Type 0
+abbrev pub Turn : (s owner parent rank : List ℕ) (k : ℕ) (lead marks : List ℕ) → Type 0
 Turn s owner parent rank k lead marks = (Owned s owner parent × ((v : ℕ) × Place s v k)) × Marking s owner parent rank k lead marks
 
-module _ {s owner parent rank : List ℕ} {k : ℕ} {lead : List ℕ} {marks : List LinkMark} (turn : Turn s owner parent rank k lead marks) where
+module _ {s owner parent rank : List ℕ} {k : ℕ} {lead marks : List ℕ} (turn : Turn s owner parent rank k lead marks) where
   abbrev o : Owned s owner parent
   o = turn.0.0
 
@@ -100,7 +98,7 @@ module _ {s owner parent rank : List ℕ} {k : ℕ} {lead : List ℕ} {marks : L
   here-known = o.shaped.known v k p.inside p.low p.high
 
   -- Place k gets a mark, and no leader changes.
-  stays : {x : LinkMark} → Standing s owner parent rank lead k x → Marking s owner parent rank (k + 1) lead (set marks k x)
+  stays : {x : ℕ} → Standing s owner parent rank lead k x → Marking s owner parent rank (k + 1) lead (set marks k x)
   stays {x} new =
       record {
         long = length-set marks k x ∙ m.long;
@@ -109,11 +107,11 @@ module _ {s owner parent rank : List ℕ} {k : ℕ} {lead : List ℕ} {marks : L
         each = λ u i q l. go u i q l (ℕ_discrete i k);
       }
     where
-      go : (u i : ℕ) → Place s u i → i < k + 1 → Dec (i ≡ k) → Standing s owner parent rank lead i (get_or (set marks k x) i link_mark.Follows)
-      go u i q l (yes e) = rw (e, get_or-set_same marks k x link_mark.Follows (omega (arith, m.long, here-inside))) new
-      go u i q l (no d) = rw (get_or-set_other marks k i x link_mark.Follows d) (m.each u i q (omega arith))
+      go : (u i : ℕ) → Place s u i → i < k + 1 → Dec (i ≡ k) → Standing s owner parent rank lead i (get_or (set marks k x) i 0)
+      go u i q l (yes e) = rw (e, get_or-set_same marks k x 0 (omega (arith, m.long, here-inside))) new
+      go u i q l (no d) = rw (get_or-set_other marks k i x 0 d) (m.each u i q (omega arith))
 
-  pub marking-bare : get_or owner k 0 ≡ 65535 → Marking s owner parent rank (k + 1) lead (set marks k link_mark.Bare)
+  pub marking-bare : get_or owner k 0 ≡ 65535 → Marking s owner parent rank (k + 1) lead (set marks k 2)
   marking-bare none = stays (stands-bare refl none)
 
   module _ (has : Has owner k) where
@@ -127,12 +125,12 @@ module _ {s owner parent rank : List ℕ} {k : ℕ} {lead : List ℕ} {marks : L
     class = class-is o.flat (o.low k here-within has)
 
     -- Place k becomes the leader of its class. `before` has marks for the places before k that fit the new leader.
-    takes : (before : List LinkMark) → length before ≡ length s →
-        ((u i : ℕ) → Place s u i → i < k → Standing s owner parent rank (set lead c k) i (get_or before i link_mark.Follows)) →
-        Marking s owner parent rank (k + 1) (set lead c k) (set before k link_mark.Leads)
+    takes : (before : List ℕ) → length before ≡ length s →
+        ((u i : ℕ) → Place s u i → i < k → Standing s owner parent rank (set lead c k) i (get_or before i 0)) →
+        Marking s owner parent rank (k + 1) (set lead c k) (set before k 1)
     takes before long each =
         record {
-          long = length-set before k link_mark.Leads ∙ long;
+          long = length-set before k 1 ∙ long;
           lead-long = length-set lead c k ∙ m.lead-long;
           met = λ x h d. met x h d (ℕ_discrete x c);
           each = λ u i q l. go u i q l (ℕ_discrete i k);
@@ -149,14 +147,14 @@ module _ {s owner parent rank : List ℕ} {k : ℕ} {lead : List ℕ} {marks : L
             let (l, b, e) = m.met x h (λ q. d (same ∙ q)) in
             rw same (omega arith, b, e)
 
-        go : (u i : ℕ) → Place s u i → i < k + 1 → Dec (i ≡ k) → Standing s owner parent rank (set lead c k) i (get_or (set before k link_mark.Leads) i link_mark.Follows)
+        go : (u i : ℕ) → Place s u i → i < k + 1 → Dec (i ≡ k) → Standing s owner parent rank (set lead c k) i (get_or (set before k 1) i 0)
         go u i q l (yes e) =
-            rw (e, get_or-set_same before k link_mark.Leads link_mark.Follows (omega (arith, long, here-inside)))
+            rw (e, get_or-set_same before k 1 0 (omega (arith, long, here-inside)))
             (stands-first refl has (ap (λ (x : ℕ). get_or (set lead c k) x 0) (sym class) ∙ now))
-        go u i q l (no d) = rw (get_or-set_other before k i link_mark.Leads link_mark.Follows d) (each u i q (omega arith))
+        go u i q l (no d) = rw (get_or-set_other before k i 1 0 d) (each u i q (omega arith))
 
     -- A place of another class keeps its leader.
-    other : (i : ℕ) (x : LinkMark) → (class_at owner parent i ≡ c → ⊥) → Standing s owner parent rank lead i x →
+    other : (i x : ℕ) → (class_at owner parent i ≡ c → ⊥) → Standing s owner parent rank lead i x →
         Standing s owner parent rank (set lead c k) i x
     other i x d st = go st (get_or-set_other lead c (class_at owner parent i) k 0 d)
       where
@@ -168,12 +166,12 @@ module _ {s owner parent rank : List ℕ} {k : ℕ} {lead : List ℕ} {marks : L
         go (stands-bare e h) same = stands-bare e h
 
     -- Place k is the first of its class that is met.
-    pub marking-first : get_or lead c 0 ≡ 65535 → Marking s owner parent rank (k + 1) (set lead c k) (set marks k link_mark.Leads)
+    pub marking-first : get_or lead c 0 ≡ 65535 → Marking s owner parent rank (k + 1) (set lead c k) (set marks k 1)
     marking-first free = takes marks m.long (λ u i q l. go u i q l (ℕ_discrete (class_at owner parent i) c) (m.each u i q l))
       where
-        go : (u i : ℕ) → Place s u i → i < k → Dec (class_at owner parent i ≡ c) → Standing s owner parent rank lead i (get_or marks i link_mark.Follows) →
-            Standing s owner parent rank (set lead c k) i (get_or marks i link_mark.Follows)
-        go u i q l (no d) st = other i (get_or marks i link_mark.Follows) d st
+        go : (u i : ℕ) → Place s u i → i < k → Dec (class_at owner parent i ≡ c) → Standing s owner parent rank lead i (get_or marks i 0) →
+            Standing s owner parent rank (set lead c k) i (get_or marks i 0)
+        go u i q l (no d) st = other i (get_or marks i 0) d st
         go u i q l (yes e) (stands-behind f h b w) =
             absurd (omega (arith, ap (λ (x : ℕ). get_or lead x 0) e ∙ free, low-place o b))
         go u i q l (yes e) (stands-first f h w) =
@@ -208,7 +206,7 @@ module _ {s owner parent rank : List ℕ} {k : ℕ} {lead : List ℕ} {marks : L
           let (u, q) = met-place in
           o.shaped.known u j q.inside q.low q.high
 
-      pub marking-follows : rank_at s rank j ≤ rank_at s rank k → Marking s owner parent rank (k + 1) lead (set marks k link_mark.Follows)
+      pub marking-follows : rank_at s rank j ≤ rank_at s rank k → Marking s owner parent rank (k + 1) lead (set marks k 0)
       marking-follows h =
           stays
           (stands-behind refl has (rw same (omega (arith, met-before, here-within)))
@@ -221,41 +219,41 @@ module _ {s owner parent rank : List ℕ} {k : ℕ} {lead : List ℕ} {marks : L
           go (yes l) = inl l
           go (no d) = inr (omega arith, met-before)
 
-      pub marking-overtakes : rank_at s rank k < rank_at s rank j → Marking s owner parent rank (k + 1) (set lead c k) (set (set marks j link_mark.Follows) k link_mark.Leads)
+      pub marking-overtakes : rank_at s rank k < rank_at s rank j → Marking s owner parent rank (k + 1) (set lead c k) (set (set marks j 0) k 1)
       marking-overtakes less =
-          takes (set marks j link_mark.Follows) (length-set marks j link_mark.Follows ∙ m.long)
+          takes (set marks j 0) (length-set marks j 0 ∙ m.long)
           (λ u i q l. go u i q (ℕ_discrete (class_at owner parent i) c) (ℕ_discrete i j) (m.each u i q l))
         where
           now : (i : ℕ) → class_at owner parent i ≡ c → get_or (set lead c k) (class_at owner parent i) 0 ≡ k
           now i e =
               ap (λ (x : ℕ). get_or (set lead c k) x 0) e ∙ get_or-set_same lead c k 0 (omega (arith, m.lead-long, here-class))
 
-          zero-there : get_or (set marks j link_mark.Follows) j link_mark.Follows ≡ link_mark.Follows
-          zero-there = get_or-set_same marks j link_mark.Follows link_mark.Follows (omega (arith, m.long, met-inside))
+          zero-there : get_or (set marks j 0) j 0 ≡ 0
+          zero-there = get_or-set_same marks j 0 0 (omega (arith, m.long, met-inside))
 
-          under : (i : ℕ) (x : LinkMark) → x ≡ link_mark.Follows → Has owner i → class_at owner parent i ≡ c → Sooner s rank k i →
+          under : (i x : ℕ) → x ≡ 0 → Has owner i → class_at owner parent i ≡ c → Sooner s rank k i →
               Standing s owner parent rank (set lead c k) i x
           under i x z h e w =
               stands-behind z h (rw (now i e) here-within) (subst (λ (y : ℕ). Sooner s rank y i) (sym (now i e)) w)
 
-          go : (u i : ℕ) → Place s u i → Dec (class_at owner parent i ≡ c) → Dec (i ≡ j) → Standing s owner parent rank lead i (get_or marks i link_mark.Follows) →
-              Standing s owner parent rank (set lead c k) i (get_or (set marks j link_mark.Follows) i link_mark.Follows)
+          go : (u i : ℕ) → Place s u i → Dec (class_at owner parent i ≡ c) → Dec (i ≡ j) → Standing s owner parent rank lead i (get_or marks i 0) →
+              Standing s owner parent rank (set lead c k) i (get_or (set marks j 0) i 0)
           go u i q (no d) (yes e) st = absurd (d (ap (class_at owner parent) e ∙ met-class))
-          go u i q (no d) (no n) st = rw (get_or-set_other marks j i link_mark.Follows link_mark.Follows n) (other i (get_or marks i link_mark.Follows) d st)
+          go u i q (no d) (no n) st = rw (get_or-set_other marks j i 0 0 n) (other i (get_or marks i 0) d st)
           go u i q (yes d) (yes e) st =
-              under i (get_or (set marks j link_mark.Follows) i link_mark.Follows) (ap (λ (x : ℕ). get_or (set marks j link_mark.Follows) x link_mark.Follows) e ∙ zero-there)
+              under i (get_or (set marks j 0) i 0) (ap (λ (x : ℕ). get_or (set marks j 0) x 0) e ∙ zero-there)
               (subst (Has owner) (sym e) met_has) d (subst (Sooner s rank k) (sym e) (inl less))
           go u i q (yes d) (no n) (stands-behind f h b w) =
-              under i (get_or (set marks j link_mark.Follows) i link_mark.Follows) (get_or-set_other marks j i link_mark.Follows link_mark.Follows n ∙ f) h d
+              under i (get_or (set marks j 0) i 0) (get_or-set_other marks j i 0 0 n ∙ f) h d
               (sooner-trans (inl less) (subst (λ (y : ℕ). Sooner s rank y i) (ap (λ (x : ℕ). get_or lead x 0) d) w))
           go u i q (yes d) (no n) (stands-first f h w) = absurd (n (sym w ∙ ap (λ (x : ℕ). get_or lead x 0) d))
-          go u i q (yes d) (no n) (stands-bare f h) = stands-bare (get_or-set_other marks j i link_mark.Follows link_mark.Follows n ∙ f) h
+          go u i q (yes d) (no n) (stands-bare f h) = stands-bare (get_or-set_other marks j i 0 0 n ∙ f) h
 
 -- All places.
 
 module _ {s owner parent rank : List ℕ} (o : Owned s owner parent) where
   -- `Marking` moves from place k to place l where no link stands between them.
-  moved : {k l : ℕ} {lead : List ℕ} {marks : List LinkMark} → Marking s owner parent rank k lead marks → k ≤ l →
+  moved : {k l : ℕ} {lead marks : List ℕ} → Marking s owner parent rank k lead marks → k ≤ l →
       ((v j : ℕ) → Place s v j → j < l → j < k) → Marking s owner parent rank l lead marks
   moved m low none =
       record {
@@ -265,7 +263,7 @@ module _ {s owner parent rank : List ℕ} (o : Owned s owner parent) where
         each = λ v j p h. m.each v j p (none v j p h);
       }
 
-  pub marking-start : {lead : List ℕ} {marks : List LinkMark} → length marks ≡ length s → length lead ≡ 255 →
+  pub marking-start : {lead marks : List ℕ} → length marks ≡ length s → length lead ≡ 255 →
       ((c : ℕ) → c < 255 → get_or lead c 0 ≡ 65535) → Marking s owner parent rank (row_from s 0) lead marks
   marking-start long room clear =
       record {
@@ -276,24 +274,24 @@ module _ {s owner parent rank : List ℕ} (o : Owned s owner parent) where
       }
 
   -- When all links are met, the marks are those by rank, then by place.
-  pub marking-all : (v : ℕ) {lead : List ℕ} {marks : List LinkMark} → Marking s owner parent rank (row_from s v) lead marks → v ≤ size s → size s ≤ v →
+  pub marking-all : (v : ℕ) {lead marks : List ℕ} → Marking s owner parent rank (row_from s v) lead marks → v ≤ size s → size s ≤ v →
       Marks (Sooner s rank) s owner parent marks
   marking-all v {lead} {marks} m low high = record { long = m.long; each = λ u k p. go u k p (stands u k p) }
     where
-      stands : (u k : ℕ) → Place s u k → Standing s owner parent rank lead k (get_or marks k link_mark.Follows)
+      stands : (u k : ℕ) → Place s u k → Standing s owner parent rank lead k (get_or marks k 0)
       stands u k p =
           m.each u k p
           (subst (λ (i : ℕ). k < row_from s i) (omega arith) (place-before o.shaped p))
 
       alone : (k : ℕ) → get_or lead (class_at owner parent k) 0 ≡ k → (j : ℕ) → Sooner s rank j k → Together owner parent j k →
-          Standing s owner parent rank lead j (get_or marks j link_mark.Follows) → ⊥
+          Standing s owner parent rank lead j (get_or marks j 0) → ⊥
       alone k q j w t (stands-behind e h b z) =
           not-sooner (sooner-trans (subst (λ (i : ℕ). Sooner s rank i j) (ap (λ (x : ℕ). get_or lead x 0) t.class ∙ q) z) w)
       alone k q j w t (stands-first e h z) =
           not-sooner (subst (λ (i : ℕ). Sooner s rank i k) (sym z ∙ ap (λ (x : ℕ). get_or lead x 0) t.class ∙ q) w)
       alone k q j w t (stands-bare e h) = t.left h
 
-      go : (u k : ℕ) → Place s u k → Standing s owner parent rank lead k (get_or marks k link_mark.Follows) → Mark owner parent (Sooner s rank) k (get_or marks k link_mark.Follows)
+      go : (u k : ℕ) → Place s u k → Standing s owner parent rank lead k (get_or marks k 0) → Mark owner parent (Sooner s rank) k (get_or marks k 0)
       go u k p (stands-behind e h b w) =
           let (_, has, class) =
           m.met (class_at owner parent k) (class-small o k (within o p) h) (λ z. omega (arith, low-place o b)) in
@@ -303,7 +301,7 @@ module _ {s owner parent rank : List ℕ} (o : Owned s owner parent) where
       go u k p (stands-bare e h) = bare e h
 
 -- The loop stands at place k in the row of node v, and the links before place k are marked.
-pub record InRow (s owner parent rank : List ℕ) (v k : ℕ) (lead : List ℕ) (marks : List LinkMark) : Type 0 where
+pub record InRow (s owner parent rank : List ℕ) (v k : ℕ) (lead marks : List ℕ) : Type 0 where
   pub owned : Owned s owner parent
   pub inside : v < size s
   pub low : links_from s v ≤ k
@@ -311,7 +309,7 @@ pub record InRow (s owner parent rank : List ℕ) (v k : ℕ) (lead : List ℕ) 
   pub marking : Marking s owner parent rank k lead marks
 
 module _ {s owner parent rank : List ℕ} where
-  pub row-start : (v : ℕ) {lead : List ℕ} {marks : List LinkMark} → Owned s owner parent → Marking s owner parent rank (row_from s v) lead marks → v < size s →
+  pub row-start : (v : ℕ) {lead marks : List ℕ} → Owned s owner parent → Marking s owner parent rank (row_from s v) lead marks → v < size s →
       InRow s owner parent rank v (links_from s v) lead marks
   row-start v o m h =
       record {
@@ -322,14 +320,14 @@ module _ {s owner parent rank : List ℕ} where
         marking = moved o m (omega arith) (λ u j p below. no_header o.shaped v h p below);
       }
 
-  module _ {v k : ℕ} {lead : List ℕ} {marks : List LinkMark} (r : InRow s owner parent rank v k lead marks) where
+  module _ {v k : ℕ} {lead marks : List ℕ} (r : InRow s owner parent rank v k lead marks) where
     pub row-place : k < row_end s v → Place s v k
     row-place h = record { inside = r.inside; low = r.low; high = h }
 
     pub row_within : k < row_end s v → k < length owner
     row_within h = within r.owned (row-place h)
 
-    pub row_next : {lead' : List ℕ} {marks' : List LinkMark} → k < row_end s v → Marking s owner parent rank (k + 1) lead' marks' →
+    pub row_next : {lead' marks' : List ℕ} → k < row_end s v → Marking s owner parent rank (k + 1) lead' marks' →
         InRow s owner parent rank v (k + 1) lead' marks'
     row_next h m = record { owned = r.owned; inside = r.inside; low = omega (arith, r.low); high = omega arith; marking = m }
 

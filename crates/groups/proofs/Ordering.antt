@@ -18,8 +18,6 @@ use Rattle.link_orders.specs.declared.LinkOrder.{LinkOrder}
 use Rattle.link_orders.specs.declared.LinkOrder.TheVariants as link_order
 use Rattle.groups.specs.Marks.{At, Earlier, rank_at, Sooner, Owned, Mark, follows, leads, bare, Marks}
 use Rattle.link_orders.specs.LinkOrders.{earlier_by, rank_of, Ranks}
-use Rattle.groups.specs.declared.LinkMark.{LinkMark}
-use Rattle.groups.specs.declared.LinkMark.TheVariants as link_mark
 
 -- The order that a call asks for.
 
@@ -107,7 +105,7 @@ module _ {ws : List ℕ} (shaped : Shaped ws) {j k : ℕ} {l m : Link ℕ} (a : 
             back (inr (e, h)) = inr (p ∙ ap (place_in list) e ∙ sym q, at_before (inl h))
 
 -- Marks by ranks are marks by the order that a call asks for.
-pub marks-by-order : {s owner parent : List ℕ} {order : LinkOrder} {rank : List ℕ} {marks : List LinkMark} → Owned s owner parent → Ranks order rank →
+pub marks-by-order : {s owner parent : List ℕ} {order : LinkOrder} {rank marks : List ℕ} → Owned s owner parent → Ranks order rank →
     Marks (Sooner s rank) s owner parent marks → Marks (Earlier (earlier_by order) s) s owner parent marks
 marks-by-order {s} {owner} {parent} {order} {rank} {marks} o ranks m =
     record { long = m.long; each = λ v k p. go v k p (m.each v k p) }
@@ -115,8 +113,8 @@ marks-by-order {s} {owner} {parent} {order} {rank} {marks} o ranks m =
     at : {v k : ℕ} → Place s v k → At s k (v, feature_at s k)
     at p = record { place = p; feature = refl }
 
-    go : (v k : ℕ) → Place s v k → Mark owner parent (Sooner s rank) k (get_or marks k link_mark.Follows) →
-        Mark owner parent (Earlier (earlier_by order) s) k (get_or marks k link_mark.Follows)
+    go : (v k : ℕ) → Place s v k → Mark owner parent (Sooner s rank) k (get_or marks k 0) →
+        Mark owner parent (Earlier (earlier_by order) s) k (get_or marks k 0)
     go v k p (follows e j h w t) =
         let (u, q) = o.linked j h t.left in
         follows e j h ((u, feature_at s j), (v, feature_at s k), at q, at p, (sooner-earlier o.shaped (at q) (at p) ranks).0 w) t

@@ -1,12 +1,10 @@
--- The marks of the links of s, by an order of links (document 01, "Difference"). A mark is `Bare` where nothing of g lies over the link, which
--- is then a group alone. Else the mark is `Leads` where no link of the same group comes before the link, and `Follows` where one does.
+-- The marks of the links of s, by an order of links (document 01, "Difference"). A mark is 2 where nothing of g lies over the link, which is
+-- then a group alone. Else the mark is 1 where no link of the same group comes before the link, and 0 where one does.
 use Rattle.std.specs.Prelude.{◌≡◌, Bool, true, List, ◌⊎◌, ℕ, ◌≤◌, ◌<◌, length, get_or}
 use Rattle.graphs.specs.Difference.{Link}
 use Rattle.layout.specs.Layout.{longest, feature_at, Shaped, Place, rows_end}
 use Rattle.classes.specs.Forest.{Flat, root_of}
 use Rattle.cover.specs.Cover.{Grouping}
-use Rattle.groups.specs.declared.LinkMark.{LinkMark}
-use Rattle.groups.specs.declared.LinkMark.TheVariants as link_mark
 
 -- the link l stands at place k
 pub record At (ws : List ℕ) (k : ℕ) (l : Link ℕ) : Type 0 where
@@ -51,36 +49,36 @@ module _ (owner parent : List ℕ) where
     pub right : Has owner k
     pub class : class_at j ≡ class_at k
 
-  -- The mark of place k, where `Before` is an order of places: `Follows` if a place with an owner of the same class comes before place k,
-  -- `Leads` if none does, and `Bare` if place k has no owner.
-  pub data Mark (Before : ℕ → ℕ → Type 0) (k : ℕ) (mark : LinkMark) : Type 0 where
-    follows : mark ≡ link_mark.Follows → (j : ℕ) → j < length owner → Before j k → Together j k → Mark Before k mark
-    leads : mark ≡ link_mark.Leads → Has owner k → ((j : ℕ) → j < length owner → Before j k → Together j k → ⊥) → Mark Before k mark
-    bare : mark ≡ link_mark.Bare → get_or owner k 0 ≡ 65535 → Mark Before k mark
+  -- The mark of place k, where `Before` is an order of places: 0 if a place with an owner of the same class comes before place k, 1 if none
+  -- does, and 2 if place k has no owner.
+  pub data Mark (Before : ℕ → ℕ → Type 0) (k mark : ℕ) : Type 0 where
+    follows : mark ≡ 0 → (j : ℕ) → j < length owner → Before j k → Together j k → Mark Before k mark
+    leads : mark ≡ 1 → Has owner k → ((j : ℕ) → j < length owner → Before j k → Together j k → ⊥) → Mark Before k mark
+    bare : mark ≡ 2 → get_or owner k 0 ≡ 65535 → Mark Before k mark
 
 -- all links of s are marked
-pub record Marks (Before : ℕ → ℕ → Type 0) (s owner parent : List ℕ) (marks : List LinkMark) : Type 0 where
+pub record Marks (Before : ℕ → ℕ → Type 0) (s owner parent marks : List ℕ) : Type 0 where
   pub long : length marks ≡ length s
-  pub each : (v k : ℕ) → Place s v k → Mark owner parent Before k (get_or marks k link_mark.Follows)
+  pub each : (v k : ℕ) → Place s v k → Mark owner parent Before k (get_or marks k 0)
 
 -- The mark of place k so far. `lead` has for each class the place of its first link so far, by rank and then by place, and 65535 where no
 -- link of the class is met.
-pub data Standing (s owner parent rank lead : List ℕ) (k : ℕ) (mark : LinkMark) : Type 0 where
-  stands-behind : mark ≡ link_mark.Follows → Has owner k → get_or lead (class_at owner parent k) 0 < length owner →
+pub data Standing (s owner parent rank lead : List ℕ) (k mark : ℕ) : Type 0 where
+  stands-behind : mark ≡ 0 → Has owner k → get_or lead (class_at owner parent k) 0 < length owner →
       Sooner s rank (get_or lead (class_at owner parent k) 0) k → Standing s owner parent rank lead k mark
-  stands-first : mark ≡ link_mark.Leads → Has owner k → get_or lead (class_at owner parent k) 0 ≡ k → Standing s owner parent rank lead k mark
-  stands-bare : mark ≡ link_mark.Bare → get_or owner k 0 ≡ 65535 → Standing s owner parent rank lead k mark
+  stands-first : mark ≡ 1 → Has owner k → get_or lead (class_at owner parent k) 0 ≡ k → Standing s owner parent rank lead k mark
+  stands-bare : mark ≡ 2 → get_or owner k 0 ≡ 65535 → Standing s owner parent rank lead k mark
 
 -- the links of s before place `bound` are met and marked
-pub record Marking (s owner parent rank : List ℕ) (bound : ℕ) (lead : List ℕ) (marks : List LinkMark) : Type 0 where
+pub record Marking (s owner parent rank : List ℕ) (bound : ℕ) (lead marks : List ℕ) : Type 0 where
   pub long : length marks ≡ length s
   pub lead-long : length lead ≡ 255
   pub met : (c : ℕ) → c < 255 → (get_or lead c 0 ≡ 65535 → ⊥) →
       (get_or lead c 0 < bound) × Has owner (get_or lead c 0) × (class_at owner parent (get_or lead c 0) ≡ c)
-  pub each : (v k : ℕ) → Place s v k → k < bound → Standing s owner parent rank lead k (get_or marks k link_mark.Follows)
+  pub each : (v k : ℕ) → Place s v k → k < bound → Standing s owner parent rank lead k (get_or marks k 0)
 
 -- All links of s are marked by an order of links, and the owners and classes are complete for all links of g.
-pub record Marked (earlier : Link ℕ → Link ℕ → Bool) (s g map : List ℕ) (marks : List LinkMark) : Type 0 where
+pub record Marked (earlier : Link ℕ → Link ℕ → Bool) (s g map marks : List ℕ) : Type 0 where
   pub owner : List ℕ
   pub parent : List ℕ
   pub grouping : Grouping s g map (rows_end g) owner parent

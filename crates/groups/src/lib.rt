@@ -9,18 +9,32 @@ ghost use Rattle.std.specs.Prelude.{◌≡◌, ℕ, ◌+◌, ◌<◌, length};
 ghost use Rattle.layout.specs.Layout.{Place};
 ghost use Rattle.cover.specs.Cover.{Lying, Unowned};
 ghost use Rattle.groups.specs.Marks.{Marked, Marking, Marks, Owned, Sooner};
+ghost use Rattle.groups.specs.LinkMarks.{link_mark_of};
 ghost use Rattle.link_orders.specs.LinkOrders.{Fitting, earlier_by};
 
 use classes::forest;
 use link_orders::LinkOrder;
 
 // The mark of a link: another link of its group comes before it; it leads its group, with links of g over it; or nothing of g lies over it, and it
-// is a group alone.
+// is a group alone. Arrays of marks hold the marks as bytes.
 #[derive(Clone, Copy)]
 pub enum LinkMark {
-    Follows,
-    Leads,
-    Bare,
+    Follows = 0,
+    Leads = 1,
+    Bare = 2,
+}
+
+// A byte above 2 is a mark too: its link leads.
+impl From<u8> for LinkMark {
+    ghost from_gives = { λ byte mark. mark ≡ link_mark_of byte };
+
+    fn from(byte: u8) -> LinkMark {
+        match byte {
+            0 => LinkMark::Follows,
+            2 => LinkMark::Bare,
+            _ => LinkMark::Leads,
+        }
+    }
 }
 
 // Marks the link at place k, where all links before it are marked. `lead` has for each class the place of its first link so far, by rank
@@ -32,7 +46,7 @@ fn mark_place<'a>(
     rank: &'a [u8; link_orders::FEATURES],
     k: usize,
     lead: &mut [u16; 255],
-    marks: &mut [LinkMark],
+    marks: &mut [u8],
 )
     requires owned { Owned s.now owner.now parent.now × ((v : ℕ) × Place s.now v k) }
     requires marking { Marking s.now owner.now parent.now rank.now k lead.old marks.old }
@@ -40,25 +54,25 @@ fn mark_place<'a>(
 {
     let x = owner[k];
     if x == cover::NONE {
-        marks[k] = LinkMark::Bare;
+        marks[k] = LinkMark::Bare as u8;
         return;
     }
     let c = parent[x as usize] as usize;
     let j = lead[c];
     if j == cover::NONE {
         lead[c] = k as u16;
-        marks[k] = LinkMark::Leads;
+        marks[k] = LinkMark::Leads as u8;
         return;
     }
     let met = layout::feature(s[j as usize]);
     let here = layout::feature(s[k]);
     if rank[here as usize] < rank[met as usize] {
         lead[c] = k as u16;
-        marks[j as usize] = LinkMark::Follows;
-        marks[k] = LinkMark::Leads;
+        marks[j as usize] = LinkMark::Follows as u8;
+        marks[k] = LinkMark::Leads as u8;
         return;
     }
-    marks[k] = LinkMark::Follows;
+    marks[k] = LinkMark::Follows as u8;
 }
 
 // Marks the links of s, given the owner of each link, the classes of the owners and the rank of each feature.
@@ -67,7 +81,7 @@ fn mark<'a>(
     owner: &'a [u16],
     parent: &'a [u16; 510],
     rank: &'a [u8; link_orders::FEATURES],
-    marks: &mut [LinkMark],
+    marks: &mut [u8],
 )
     requires { Owned s.now owner.now parent.now × (length marks.old ≡ length s.now) }
     ensures { Marks (Sooner s.now rank.now) s.now owner.now parent.now marks.new }
@@ -89,7 +103,7 @@ pub fn mark_links<'a>(
     g: &'a [u16],
     map: &'a [u16; 255],
     order: LinkOrder,
-    marks: &mut [LinkMark],
+    marks: &mut [u8],
 )
     requires { Lying s.now g.now map.now × Fitting order × (length marks.old ≡ length s.now) }
     ensures { Marked (earlier_by order) s.now g.now map.now marks.new }
@@ -110,7 +124,7 @@ fn mark_owned<'a>(
     map: &'a [u16; 255],
     order: LinkOrder,
     owner: &mut [u16],
-    marks: &mut [LinkMark],
+    marks: &mut [u8],
 )
     requires lying { Lying s.now g.now map.now × Fitting order }
     requires unowned { Unowned s.now owner.old × (length marks.old ≡ length s.now) }

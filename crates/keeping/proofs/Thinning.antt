@@ -1,6 +1,5 @@
 -- Rows with the kept links alone: a link is added or passed over, one row follows another, and the words hold the graph that results.
 use mathlib.Core.Path.{◌≡◌, refl, sym, ◌∙◌, ap, subst}
-use mathlib.Core.Bool.{Bool}
 use mathlib.Core.List.{List}
 use Prim.Native.Nat.{ℕ, ◌+◌, ◌*◌, ◌/◌, ◌%◌, ◌≤◌, ◌<◌}
 use native.Mathlib.Decide.{ℕ_discrete}
@@ -14,7 +13,6 @@ use Rattle.layout.proofs.Builder.{label_same, put-before, label-put, built-begin
 use Rattle.layout.proofs.Order.{next_row, place-rises}
 use Rattle.keeping.specs.Keeping.{Stays, Markable}
 use Rattle.keeping.specs.Thinning.{Thinned, Rows, Kept}
-use Rattle.groups.specs.declared.LinkMark.{LinkMark}
 
 -- The feature and the target of a word that is copied.
 pub copied-feature : {w x : ℕ} → w ≡ x → w / scale ≡ x / scale
@@ -29,14 +27,14 @@ rises p q h = omega arith
 -- One row.
 
 -- At place k of v's row: the kept links before it are copied.
-pub record Thinning (s : List ℕ) (marks : List LinkMark) (keep : List Bool) (v k : ℕ) (ws₀ : List ℕ) (start : ℕ) (ws : List ℕ) (end : ℕ) : Type 0 where
+pub record Thinning (s marks keep : List ℕ) (v k : ℕ) (ws₀ : List ℕ) (start : ℕ) (ws : List ℕ) (end : ℕ) : Type 0 where
   pub ready : Markable s marks keep
   pub inside : v < size s
   pub low : links_from s v ≤ k
   pub high : k ≤ row_end s v
   pub thinned : Thinned s marks keep v k ws₀ start ws end
 
-module _ {s : List ℕ} {marks : List LinkMark} {keep : List Bool} {v : ℕ} where
+module _ {s marks keep : List ℕ} {v : ℕ} where
   pub thin-start : {ws : List ℕ} {start : ℕ} → Markable s marks keep → v < size s → length ws ≡ length s → start ≤ links_from s v →
       Thinning s marks keep v (links_from s v) ws start ws start
   thin-start r h long low =
@@ -161,7 +159,7 @@ pub record RowKnown (s : List ℕ) (v at : ℕ) : Type 0 where
   pub ended : row_end s v ≤ longest
   pub inside : row_end s v ≤ length s
 
-module _ {s : List ℕ} {marks : List LinkMark} {keep : List Bool} {labels : List ℕ} where
+module _ {s marks keep labels : List ℕ} where
   pub rows_start : (ws : List ℕ) → Markable s marks keep → length ws ≡ length s →
       Rows s marks keep labels 0 (set (set ws 0 (size s)) 1 (row_from s 0)) (row_from s 0)
   rows_start ws r long =

@@ -1,11 +1,10 @@
 -- The rows of the difference: the rows of s, as words, with only the kept links.
-use Rattle.std.specs.Prelude.{◌≡◌, Bool, List, ℕ, ◌+◌, ◌*◌, ◌≤◌, ◌<◌, length, get_or}
+use Rattle.std.specs.Prelude.{◌≡◌, List, ℕ, ◌+◌, ◌*◌, ◌≤◌, ◌<◌, length, get_or}
 use Rattle.layout.specs.Layout.{header, label_from, size, row_from, links_from, row_end, label_at, feature_at, Place}
 use Rattle.layout.specs.Builder.{Built, Same}
 use Rattle.keeping.specs.Keeping.{Stays}
-use Rattle.groups.specs.declared.LinkMark.{LinkMark}
 
-module _ (s : List ℕ) (marks : List LinkMark) (keep : List Bool) where
+module _ (s marks keep : List ℕ) where
   -- The places from `start` to `end` have the kept links of v's row before place k, in their order; what stood before stays.
   pub record Thinned (v k : ℕ) (ws₀ : List ℕ) (start : ℕ) (ws : List ℕ) (end : ℕ) : Type 0 where
     pub long : length ws ≡ length s

@@ -1,6 +1,6 @@
-// The nodes that the difference keeps, in an array with true at a kept node.
+// The nodes that the difference keeps, in an array with 1 for a kept node, else 0.
 
-ghost use Rattle.std.specs.Prelude.{◌≡◌, false, ℕ, ◌≤◌, ◌<◌, length, get_or};
+ghost use Rattle.std.specs.Prelude.{◌≡◌, ℕ, ◌≤◌, ◌<◌, length, get_or};
 ghost use Rattle.layout.specs.Layout.{Place, rows_end, size, target_at};
 ghost use Rattle.visits.specs.Walks.{Reaches};
 ghost use Rattle.keeping.specs.Keeping.{Cause, Decides, Enters, Grown, Keeps, Markable, NodeLabels, Onward, Settled, Sorted, Stays, Untop};
@@ -9,37 +9,37 @@ use groups::LinkMark;
 use layout::Label;
 
 // If the link at place k leads its group, keeps the node that it enters where nothing of g lies over the link, or where an earlier leading link
-// enters the node too. `entered` has true at the nodes that earlier leading links enter.
+// enters the node too. `entered` has 1 at the nodes that earlier leading links enter.
 fn keep_one<'a>(
     s: &'a [u16],
-    marks: &'a [LinkMark],
+    marks: &'a [u8],
     k: usize,
-    entered: &mut [bool; 255],
-    keep: &mut [bool; 255],
+    entered: &mut [u8; 255],
+    keep: &mut [u8; 255],
 )
     requires by_index { ((u : ℕ) × Place s.now u k) × (k < length s.now) × (target_at s.now k < 255) }
     requires marks_len { (length marks.now ≡ length s.now) × (length entered.old ≡ 255) × (length keep.old ≡ 255) }
     ensures { Enters s.now marks.now k keep.old entered.old keep.new entered.new }
 {
     let v = layout::target(s[k]);
-    match marks[k] {
+    match LinkMark::from(marks[k]) {
         LinkMark::Follows => return,
         LinkMark::Leads => {
-            if entered[v] {
-                keep[v] = true;
+            if entered[v] == 1 {
+                keep[v] = 1;
             }
         }
-        LinkMark::Bare => keep[v] = true,
+        LinkMark::Bare => keep[v] = 1,
     }
-    entered[v] = true;
+    entered[v] = 1;
 }
 
 // Keeps the nodes that two leading links enter, or one with nothing of g over it.
-pub fn keep_entered<'a>(s: &'a [u16], marks: &'a [LinkMark], keep: &mut [bool; 255])
+pub fn keep_entered<'a>(s: &'a [u16], marks: &'a [u8], keep: &mut [u8; 255])
     requires { Markable s.now marks.now keep.old }
     ensures { Grown (Cause s.now marks.now (rows_end s.now)) keep.old keep.new }
 {
-    let mut entered = [false; 255];
+    let mut entered = [0u8; 255];
     let nodes = s[0] as usize;
     for v in 0..nodes {
         let end = s[v + 2] as usize;
@@ -56,7 +56,7 @@ fn keep_labelled<'a>(
     table: &'a [u8],
     nodes: usize,
     labels: &'a [u16; 510],
-    keep: &mut [bool; 255],
+    keep: &mut [u8; 255],
 )
     requires { (2 ≤ n) × (n ≤ 64) × (nodes ≤ 255) × NodeLabels n nodes labels.now × (length keep.old ≡ 255) }
     ensures { Grown (Untop n table.now labels.now nodes) keep.old keep.new }
@@ -69,28 +69,28 @@ fn keep_labelled<'a>(
     for v in 0..nodes {
         let label = layout::label_from(labels, layout::HEADER * v);
         if !subsume::is_label_below(table, top, label) {
-            keep[v] = true;
+            keep[v] = 1;
         }
     }
 }
 
 // Whether the link at place k leads its group and enters a kept node.
-pub fn is_kept<'a>(s: &'a [u16], marks: &'a [LinkMark], keep: &'a [bool; 255], k: usize) -> bool
+pub fn is_kept<'a>(s: &'a [u16], marks: &'a [u8], keep: &'a [u8; 255], k: usize) -> bool
     requires marks_len { (length marks.now ≡ length s.now) × (length keep.now ≡ 255) }
     requires k_in_bounds { (k < length s.now) × (target_at s.now k < 255) }
     ensures { Decides (Stays s.now marks.now keep.now k) result }
 {
-    match marks[k] {
+    match LinkMark::from(marks[k]) {
         LinkMark::Follows => false,
-        LinkMark::Leads | LinkMark::Bare => keep[layout::target(s[k])],
+        LinkMark::Leads | LinkMark::Bare => keep[layout::target(s[k])] == 1,
     }
 }
 
 // Whether a link between two places is kept.
 fn has_kept_link<'a>(
     s: &'a [u16],
-    marks: &'a [LinkMark],
-    keep: &'a [bool; 255],
+    marks: &'a [u8],
+    keep: &'a [u8; 255],
     start: usize,
     end: usize,
 ) -> bool
@@ -107,12 +107,7 @@ fn has_kept_link<'a>(
 }
 
 // Keeps the nodes that a kept link leaves. The order goes through the nodes with targets first.
-fn keep_parents<'a>(
-    s: &'a [u16],
-    marks: &'a [LinkMark],
-    order: &'a [u16; 510],
-    keep: &mut [bool; 255],
-)
+fn keep_parents<'a>(s: &'a [u16], marks: &'a [u8], order: &'a [u16; 510], keep: &mut [u8; 255])
     requires { Markable s.now marks.now keep.old × Sorted s.now order.now × (length order.now ≡ 510) }
     ensures { Settled (λ v. Unit {0}) s.now marks.now keep.old keep.new }
 {
@@ -122,7 +117,7 @@ fn keep_parents<'a>(
         let start = s[v + 1] as usize + layout::HEADER;
         let end = s[v + 2] as usize;
         if has_kept_link(s, marks, keep, start, end) {
-            keep[v] = true;
+            keep[v] = 1;
         }
     }
 }
@@ -132,16 +127,16 @@ pub fn kept_nodes<'a>(
     n: usize,
     table: &'a [u8],
     s: &'a [u16],
-    marks: &'a [LinkMark],
+    marks: &'a [u8],
     labels: &'a [u16; 510],
-    keep: &mut [bool; 255],
+    keep: &mut [u8; 255],
 )
     requires le_n { (2 ≤ n) × (n ≤ 64) × NodeLabels n (size s.now) labels.now }
-    requires markable { Markable s.now marks.now keep.old × ((v : ℕ) → v < 255 → get_or keep.old v false ≡ false) }
+    requires markable { Markable s.now marks.now keep.old × ((v : ℕ) → v < 255 → get_or keep.old v 0 ≡ 0) }
     requires by_index { (v : ℕ) → Reaches s.now v v → ⊥ }
     ensures { Keeps n table.now s.now marks.now labels.now keep.new }
 {
-    keep[0] = true;
+    keep[0] = 1;
     keep_entered(s, marks, keep);
     keep_labelled(n, table, s[0] as usize, labels, keep);
     // There is no cycle, so only the order is needed.

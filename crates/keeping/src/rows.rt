@@ -6,13 +6,11 @@ ghost use Rattle.layout.specs.Layout.{header, label_from, links_from, row_end, s
 ghost use Rattle.keeping.specs.Keeping.{Markable};
 ghost use Rattle.keeping.specs.Thinning.{Kept, Thinned};
 
-use groups::LinkMark;
-
 // Copies the kept links of node v to the words from `at` on. Answers the next place.
 fn keep_row<'a>(
     s: &'a [u16],
-    marks: &'a [LinkMark],
-    keep: &'a [bool; 255],
+    marks: &'a [u8],
+    keep: &'a [u8; 255],
     v: usize,
     at: usize,
     words: &mut [u16],
@@ -36,8 +34,8 @@ fn keep_row<'a>(
 // Fills words with the rows of the difference.
 pub fn kept_links<'a>(
     s: &'a [u16],
-    marks: &'a [LinkMark],
-    keep: &'a [bool; 255],
+    marks: &'a [u8],
+    keep: &'a [u8; 255],
     labels: &'a [u16; 510],
     words: &mut [u16],
 )

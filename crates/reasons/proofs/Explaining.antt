@@ -1,13 +1,14 @@
 -- The reasons at the places of links, one link after another and one row after another. The feature of a kept link finds its place in s.
 use mathlib.Core.Path.{◌≡◌, refl, sym, ◌∙◌, ap, subst}
-use mathlib.Core.Bool.{Bool, true, false, cond}
+use mathlib.Core.Bool.{Bool, cond}
 use mathlib.Core.List.{List}
 use mathlib.Core.Logic.{⊎_elim}
 use Prim.Native.Nat.{ℕ, ◌+◌, ◌≤◌, ◌<◌}
 use native.Mathlib.Decide.{ℕ_discrete, dec_lt}
 use native.Mathlib.Nat.{lt_irrefl, lt_trans}
 use native.Mathlib.Omega.{arith}
-use Rattle.graphs.proofs.Search.{true-false, not-true-false}
+use borrow.Author.Tests.{eq-eqb, ne_eqb}
+use lib.Dec.{eqb}
 use lib.ListN.{length, get_or, set, length-set}
 use lib.Seq.{get_or-set_same, get_or-set_other}
 use Rattle.layout.specs.Layout.{longest, size, links_from, row_end, feature_at, Place, rows_end}
@@ -18,36 +19,31 @@ use Rattle.keeping.specs.Keeping.{Cause, Grown, Markable}
 use Rattle.reasons.specs.Explaining.{Copied, Explains, ExplainsRow, RowExplained, reason_by, reason_of}
 use Rattle.keeping.proofs.Thinning.{copied-feature}
 use Rattle.keeping.proofs.Keeping.{PlaceKnown, place-known}
-use Rattle.groups.specs.declared.LinkMark.{LinkMark}
-use Rattle.groups.specs.declared.LinkMark.TheVariants as link_mark
 
 -- The number of a reason.
 
-module _ (mark : LinkMark) (meeting : Bool) where
-  pub reason-one : mark ≡ link_mark.Bare → reason_of mark meeting ≡ 1
+module _ (mark meeting : ℕ) where
+  pub reason-one : mark ≡ 2 → reason_of mark meeting ≡ 1
   unfolding reason_of
-  reason-one e = ap (λ (m : LinkMark). reason_of m meeting) e
+  reason-one e = ap (λ (b : Bool). cond b 1 (cond (eqb meeting 1) 2 3)) (eq-eqb mark 2 e)
 
-  module _ (other : mark ≡ link_mark.Bare → ⊥) where
-    reason-other : reason_of mark meeting ≡ cond meeting 2 3
+  module _ (other : mark ≡ 2 → ⊥) where
+    pub reason-two : meeting ≡ 1 → reason_of mark meeting ≡ 2
     unfolding reason_of
-    reason-other = go mark other
-      where
-        go : (m : LinkMark) → (m ≡ link_mark.Bare → ⊥) → reason_of m meeting ≡ cond meeting 2 3
-        go link_mark.Follows d = refl
-        go link_mark.Leads d = refl
-        go link_mark.Bare d = absurd (d refl)
+    reason-two e =
+        ap (λ (b : Bool). cond b 1 (cond (eqb meeting 1) 2 3)) (ne_eqb mark 2 other)
+        ∙ ap (λ (b : Bool). cond b 2 3) (eq-eqb meeting 1 e)
 
-    pub reason-two : meeting ≡ true → reason_of mark meeting ≡ 2
-    reason-two e = reason-other ∙ ap (λ (b : Bool). cond b 2 3) e
-
-    pub reason-three : (meeting ≡ true → ⊥) → reason_of mark meeting ≡ 3
-    reason-three d = reason-other ∙ ap (λ (b : Bool). cond b 2 3) (not-true-false meeting d)
+    pub reason-three : (meeting ≡ 1 → ⊥) → reason_of mark meeting ≡ 3
+    unfolding reason_of
+    reason-three d =
+        ap (λ (b : Bool). cond b 1 (cond (eqb meeting 1) 2 3)) (ne_eqb mark 2 other)
+        ∙ ap (λ (b : Bool). cond b 2 3) (ne_eqb meeting 1 d)
 
 -- One row.
 
 -- At place k of v's row. The places of v's row in s before j are passed.
-pub record Turning (s : List ℕ) (marks : List LinkMark) (meeting : List Bool) (words : List ℕ) (v : ℕ) (old reasons : List ℕ) (j k : ℕ) : Type 0 where
+pub record Turning (s marks meeting words : List ℕ) (v : ℕ) (old reasons : List ℕ) (j k : ℕ) : Type 0 where
   pub ready : Markable s marks meeting
   pub copied : Copied s words
   pub inside : v < size s
@@ -63,7 +59,7 @@ pub record Turning (s : List ℕ) (marks : List LinkMark) (meeting : List Bool) 
 in_words : {s words : List ℕ} {v : ℕ} → Copied s words → v < size s → v < size words
 in_words c h = omega (arith, c.sized)
 
-module _ {s : List ℕ} {marks : List LinkMark} {meeting : List Bool} {words : List ℕ} {v : ℕ} where
+module _ {s marks meeting words : List ℕ} {v : ℕ} where
   pub explain-start : {reasons : List ℕ} → Markable s marks meeting → Copied s words → v < size s → length reasons ≡ longest →
       Turning s marks meeting words v reasons reasons (links_from s v) (links_from words v)
   explain-start r c h l =
@@ -169,14 +165,14 @@ module _ {s : List ℕ} {marks : List LinkMark} {meeting : List Bool} {words : L
 -- All rows.
 
 -- The rows before v have their reasons.
-pub record Explaining (s : List ℕ) (marks : List LinkMark) (meeting : List Bool) (words : List ℕ) (v : ℕ) (reasons : List ℕ) : Type 0 where
+pub record Explaining (s marks meeting words : List ℕ) (v : ℕ) (reasons : List ℕ) : Type 0 where
   pub ready : Markable s marks meeting
   pub copied : Copied s words
   pub high : v ≤ size s
   pub long : length reasons ≡ longest
   pub each : (u : ℕ) → u < v → RowExplained s marks meeting words u (row_end words u) reasons
 
-module _ {s : List ℕ} {marks : List LinkMark} {meeting : List Bool} {words : List ℕ} where
+module _ {s marks meeting words : List ℕ} where
   pub rows-begin : {reasons : List ℕ} → Markable s marks meeting → Copied s words → length reasons ≡ longest →
       Explaining s marks meeting words 0 reasons
   rows-begin r c l =
@@ -194,14 +190,14 @@ module _ {s : List ℕ} {marks : List LinkMark} {meeting : List Bool} {words : L
           (omega (arith, earlier-row t.copied.sound.shaped u v i (omega arith) (omega (arith, t.copied.sized)) b))
           ∙ t.each u (omega arith) i j p b place q
 
-  pub rows-explained : {v : ℕ} {none : List Bool} {reasons : List ℕ} → Explaining s marks meeting words v reasons → size s ≤ v →
-      Grown (Cause s marks (rows_end s)) none meeting → ((u : ℕ) → u < 255 → get_or none u false ≡ false) → Explains s marks words reasons
+  pub rows-explained : {v : ℕ} {none reasons : List ℕ} → Explaining s marks meeting words v reasons → size s ≤ v →
+      Grown (Cause s marks (rows_end s)) none meeting → ((u : ℕ) → u < 255 → get_or none u 0 ≡ 0) → Explains s marks words reasons
   rows-explained {none = none} t h grown empty =
       record {
         long = t.long;
         meeting = meeting;
         meets = λ u l. (
-          λ e. ⊎_elim (λ (z : get_or none u false ≡ true). true-false z (empty u l)) (λ (x : Cause s marks (rows_end s) u). x) (grown.why u l e),
+          λ e. ⊎_elim (λ (z : get_or none u 0 ≡ 1). absurd (omega (arith, empty u l))) (λ (x : Cause s marks (rows_end s) u). x) (grown.why u l e),
           λ x. grown.found u l x,
         );
         each = λ v i j p place q. t.each v (omega (arith, place.inside)) i j p p.high place q;

@@ -4,7 +4,7 @@
 
 #![tactic(auto)]
 
-ghost use Rattle.std.specs.Prelude.{◌≡◌, Bool, List, ◌<◌, length};
+ghost use Rattle.std.specs.Prelude.{◌≡◌, List, ℕ, ◌<◌, length};
 ghost use Rattle.layout.specs.Layout.{longest, size};
 ghost use Rattle.keeping.specs.Keeping.{Markable};
 ghost use Rattle.reasons.specs.Explaining.{Copied, Explains, ExplainsRow, reason_of};
@@ -23,22 +23,22 @@ pub const GROUPS_MEET: u8 = 2;
 pub const WANTED: u8 = 3;
 
 // The reason for a link, by its mark and by what `meeting` has at the node that the link enters.
-fn reason_of(mark: LinkMark, meeting: bool) -> u8
+fn reason_of(mark: u8, meeting: u8) -> u8
     ensures { result ≡ reason_of mark meeting }
 {
-    match (mark, meeting) {
+    match (LinkMark::from(mark), meeting) {
         (LinkMark::Bare, _) => NOTHING_OVER,
-        (_, true) => GROUPS_MEET,
-        (_, false) => WANTED,
+        (_, 1) => GROUPS_MEET,
+        _ => WANTED,
     }
 }
 
-// Puts the reasons for the links of node v at their places. `meeting` has true at the nodes with two or more groups, or with a group that nothing of
+// Puts the reasons for the links of node v at their places. `meeting` has 1 at the nodes with two or more groups, or with a group that nothing of
 // g lies over.
 fn explain_row<'a>(
     s: &'a [u16],
-    marks: &'a [LinkMark],
-    meeting: &'a [bool; 255],
+    marks: &'a [u8],
+    meeting: &'a [u8; 255],
     words: &'a [u16],
     v: usize,
     reasons: &mut [u8; layout::LONGEST],
@@ -61,16 +61,16 @@ fn explain_row<'a>(
 // Puts the reasons for the kept links of s at their places in the rows of the difference.
 pub fn explain_links<'a>(
     s: &'a [u16],
-    marks: &'a [LinkMark],
+    marks: &'a [u8],
     words: &'a [u16],
     reasons: &mut [u8; layout::LONGEST],
 )
-    requires by_index { (meeting : List Bool) → length meeting ≡ 255 → Markable s.now marks.now meeting }
+    requires by_index { (meeting : List ℕ) → length meeting ≡ 255 → Markable s.now marks.now meeting }
     requires copied { Copied s.now words.now × (length reasons.old ≡ longest) }
     ensures { Explains s.now marks.now words.now reasons.new }
 {
-    // For a covered leading link, true marks the targets that a second leading link enters.
-    let mut meeting = [false; 255];
+    // For a covered leading link, 1 marks the targets that a second leading link enters.
+    let mut meeting = [0u8; 255];
     keeping::keep::keep_entered(s, marks, &mut meeting);
     let nodes = s[0] as usize;
     for v in 0..nodes {

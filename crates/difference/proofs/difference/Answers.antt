@@ -1,4 +1,4 @@
--- `difference` meets its contract: it lends as many fresh marks as s has words.
+-- `difference` meets its contract: it lends as many fresh bytes for marks as s has words.
 use mathlib.Core.Path.{sym}
 use native.Mathlib.Omega.{arith}
 use Rattle.difference.proofs.Answering.{marks-fresh}

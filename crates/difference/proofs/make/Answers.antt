@@ -1,5 +1,5 @@
 -- `make` meets its contract: the kept nodes are found, then the rows are made.
-use mathlib.Core.Bool.{Bool, false}
+use Prim.Native.Nat.{ℕ}
 use native.Mathlib.Omega.{arith}
 use lib.ListN.{length-replicate, get_or-replicate}
 use Rattle.lattice.proofs.Laws.{accepted-size}
@@ -14,7 +14,7 @@ kept_nodes-requires c =
     let size = accepted-size c.args.n c.args.table.now given.asked.ok in
     record {
       le_n = (size.0, size.1, wants-known given.asked given.wants);
-      markable = (markable-words given.asked given.marked.stands.long (length-replicate {A = Bool} 255 false), λ v h. get_or-replicate {A = Bool} 255 v false false h);
+      markable = (markable-words given.asked given.marked.stands.long (length-replicate {A = ℕ} 255 0), λ v h. get_or-replicate {A = ℕ} 255 v 0 0 h);
       by_index = acyclic-lower given.asked;
     }
 

@@ -1,5 +1,5 @@
 -- `write_rows` meets its contract: the record is written, with the reasons beside it if they are asked for.
-use mathlib.Core.Bool.{Bool, false}
+use Prim.Native.Nat.{ℕ}
 use native.Mathlib.Omega.{arith}
 use lib.ListN.{length-replicate, replicate}
 use Rattle.std.proofs.lemmas.Result.{err_from_is_err_and}
@@ -22,7 +22,7 @@ returns-then-not-explained c =
 pub write_marked-requires : goal.write_marked-requires
 write_marked-requires c =
     let pre = c.requires in
-    let ready = pre.0 (replicate 255 false) (length-replicate {A = Bool} 255 false) in
+    let ready = pre.0 (replicate 255 0) (length-replicate {A = ℕ} 255 0) in
     (record { sound = pre.1.sound; graph_len_bound = (omega (arith, pre.1.long, ready.short), c.explain_links.ensures.long) })
 
 pub returns-in_err-write_marked : goal.returns-in_err-write_marked

@@ -1,4 +1,5 @@
 -- `mark_place` meets its contract.
+use mathlib.Core.Path.{sym}
 use native.Mathlib.Omega.{arith}
 use lib.ListN.{length-set}
 use Rattle.groups.proofs.Marking.{here-within, here-low, here-marked, here-inside, here-known, here-class, met-before, met-inside, met-known, met-marked, marking-bare, marking-first, marking-follows, marking-overtakes}
@@ -92,10 +93,10 @@ pub shape_of-marks-then-rank-here : goal.shape_of-marks-then-rank-here
 shape_of-marks-then-rank-here c = simp length-set
 
 pub returns-then-rank-here : goal.returns-then-rank-here
-returns-then-rank-here c = marking-overtakes (c.requires.owned, c.requires.marking) c.if-x.false c.if-j.false (rw (c.feature-here.ensures, c.feature-met.ensures) at c.if-rank-here.true)
+returns-then-rank-here c = marking-overtakes (c.requires.owned, c.requires.marking) c.if-x.false c.if-j.false (rw (sym c.feature-here.ensures, sym c.feature-met.ensures) c.if-rank-here.true)
 
 pub bounds-marks-k-2 : goal.bounds-marks-k-2
 bounds-marks-k-2 c = here-marked (c.requires.owned, c.requires.marking)
 
 pub returns : goal.returns
-returns c = marking-follows (c.requires.owned, c.requires.marking) c.if-x.false c.if-j.false (rw (c.feature-here.ensures, c.feature-met.ensures) at c.if-rank-here.false)
+returns c = marking-follows (c.requires.owned, c.requires.marking) c.if-x.false c.if-j.false (rw (sym c.feature-here.ensures, sym c.feature-met.ensures) c.if-rank-here.false)

@@ -1,5 +1,4 @@
-use Prim.Native.Nat.{◌+◌}
-use mathlib.Core.Bool.{Bool, false}
+use Prim.Native.Nat.{ℕ, ◌+◌}
 use native.Mathlib.Omega.{arith}
 use lib.ListN.{length-replicate, get_or-replicate}
 use Rattle.keeping.proofs.Keeping.{entering-start, row-start, row-place, row_next, row_done, entering-done}
@@ -12,7 +11,7 @@ pub overflow_cast-nodes : goal.overflow_cast-nodes
 overflow_cast-nodes c = omega (arith, c.requires.small)
 
 pub loop-v-init : goal.loop-v-init
-loop-v-init c = (omega arith, c.requires, entering-start c.requires (length-replicate {A = Bool} 255 false) (λ v h. get_or-replicate {A = Bool} 255 v false false h))
+loop-v-init c = (omega arith, c.requires, entering-start c.requires (length-replicate {A = ℕ} 255 0) (λ v h. get_or-replicate {A = ℕ} 255 v 0 0 h))
 
 pub overflow_add-end : goal.overflow_add-end
 overflow_add-end c = omega (arith, c.loop-v-test.true, c.loop-v.invariant.1.small)
