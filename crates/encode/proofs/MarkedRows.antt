@@ -4,35 +4,64 @@ use mathlib.Core.List.{List, [], ◌∷◌, ◌++◌, append-nil, append_assoc}
 use Prim.Native.Nat.{ℕ, suc, ◌+◌, ◌-◌, ◌≤◌, ◌<◌}
 use native.Mathlib.Omega.{arith}
 use native.Mathlib.Numerals.{add-one}
-use lib.ListN.{length, drop, get_or, take, length-append}
-use lib.Seq.{sets, sets-eq, drop-drop, slice, length-slice, length-sets, take-suc, get_or-take, length-take-le}
-use borrow.Rule.Slice.PartMut.{mid_of, put_mid}
-use Rattle.std.proofs.lemmas.Slice.{between_is}
+use lib.ListN.{length, get_or, set, take, length-append, length-set}
+use lib.Seq.{sets, slice, slice_empty, length-slice, length-sets, take-suc, get_or-take, length-take-le}
 use Rattle.layout.specs.Layout.{Sound, size, links_from, row_end, longest}
+use Rattle.layout.proofs.Spans.{slice-more}
 use Rattle.encoder.specs.NumberedRows.{Visited, degree, degrees, sum_along}
 use Rattle.encoder.proofs.WrittenRows.{sum_more, sum-upto}
 use Rattle.encode.specs.Marks.{marks_along}
-use Rattle.graphs.proofs.Stores.{sets-append}
+use Rattle.graphs.proofs.Stores.{sets-append, sets_more}
 
--- Elements that are put in the place of as many others are stored one after another.
-put-stored : (at : ℕ) (old new : List ℕ) → at + length new ≤ length old → put_mid at (length new) old new ≡ sets old at new
-put-stored at old new room =
-    ap (λ (l : List ℕ). take at old ++ (new ++ l)) (drop-drop (length new) at old)
-    ∙ sym (sets-eq new old at room ∙ append_assoc (take at old) new (drop (at + length new) old))
+-- The marks of a row are written for the places before k.
+pub record MarkTurn (marks : List ℕ) (start end at : ℕ) (old out : List ℕ) (next k : ℕ) : Type 0 where
+  pub low : start ≤ k
+  pub high : k ≤ end
+  pub inside : end ≤ longest
+  pub long : length marks ≡ longest
+  pub room : at + (end - start) ≤ length old
+  pub next-is : next ≡ at + (k - start)
+  pub length-is : length out ≡ length old
+  pub out-is : out ≡ sets old at (slice start k marks)
 
--- The marks of a row are put in the place of as many bytes.
-module _ (marks : List ℕ) (start : ℕ) {end : ℕ} (ended : end ≤ length marks) where
-  pub part-length : length (mid_of start (end - start) marks) ≡ end - start
-  part-length = ap length (between_is marks start end) ∙ length-slice start end marks ended
+module _ {marks : List ℕ} {start end at : ℕ} {old : List ℕ} where
+  pub turn-start : start ≤ end → end ≤ longest → length marks ≡ longest → at + (end - start) ≤ length old →
+      MarkTurn marks start end at old old at start
+  turn-start a b l r =
+      record {
+        low = omega arith;
+        high = a;
+        inside = b;
+        long = l;
+        room = r;
+        next-is = omega arith;
+        length-is = refl;
+        out-is = sym (ap (sets old at) (slice_empty start marks));
+      }
 
-  pub part-put : (at : ℕ) (old : List ℕ) {put : List ℕ} → at + (end - start) ≤ length old → put ≡ mid_of start (end - start) marks →
-      put_mid at (at + length (mid_of start (end - start) marks) - at) old put ≡ sets old at (slice start end marks)
-  part-put at old {put} room e =
-      let is : put ≡ slice start end marks = e ∙ between_is marks start end in
-      let many : at + length (mid_of start (end - start) marks) - at ≡ length put = omega (arith, ap length e) in
-      ap (λ (k : ℕ). put_mid at k old put) many
-      ∙ put-stored at old put (omega (arith, ap length e, part-length))
-      ∙ ap (sets old at) is
+  module _ {out : List ℕ} {next k : ℕ} (t : MarkTurn marks start end at old out next k) where
+    pub turn_step : k < end → MarkTurn marks start end at old (set out next (get_or marks k 0)) (next + 1) (k + 1)
+    turn_step h =
+        record {
+          low = omega (arith, t.low);
+          high = omega arith;
+          inside = t.inside;
+          long = t.long;
+          room = t.room;
+          next-is = omega (arith, t.low, t.next-is);
+          length-is = length-set out next (get_or marks k 0) ∙ t.length-is;
+          out-is =
+              ap (λ (l : List ℕ). set l next (get_or marks k 0)) t.out-is
+              ∙ sym
+              (ap (sets old at) (slice-more start k marks 0 t.low (omega (arith, t.inside, t.long)))
+              ∙ sets_more (slice start k marks) old at next (get_or marks k 0)
+              (t.next-is ∙ ap (λ (n : ℕ). at + n) (sym (length-slice start k marks (omega (arith, t.inside, t.long))))));
+        }
+
+    pub turn-done : end ≤ k → (next ≡ at + (end - start)) × (out ≡ sets old at (slice start end marks))
+    turn-done h =
+        let e : k ≡ end = omega (arith, t.high) in
+        (omega (arith, t.next-is), t.out-is ∙ ap (λ (n : ℕ). sets old at (slice start n marks)) e)
 
 -- All rows.
 module _ (ws marks : List ℕ) where

@@ -21,9 +21,12 @@ fn put_row<'a>(
     ensures value { result ≡ at + degree graph.now v }
     ensures beside_after { beside.new ≡ sets beside.old at (slice (links_from graph.now v) (row_end graph.now v) marks.now) }
 {
-    let row = &marks[layout::links_from(graph, v)..graph[v + 2] as usize];
-    let next = at + row.len();
-    beside[at..next].copy_from_slice(row);
+    let mut next = at;
+    // The place k is needed: the mark of a link stands at its place.
+    for k in layout::links_from(graph, v)..graph[v + 2] as usize {
+        beside[next] = marks[k];
+        next += 1;
+    }
     next
 }
 

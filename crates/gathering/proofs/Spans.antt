@@ -5,7 +5,7 @@ use mathlib.Core.Logic.{inl, inr, ⊎_elim}
 use Prim.Native.Nat.{ℕ, suc, ◌+◌, ◌*◌, ◌-◌, ◌/◌, ◌%◌, ◌≤◌, ◌<◌}
 use native.Mathlib.Omega.{arith}
 use lib.ListN.{length, take, drop, get_or, set, length-drop, length-set, drop_of_length-le}
-use lib.Seq.{take_all, drop-length, drop-drop, get_or-drop, set_split, take-suc-set, drop-set-lt, append_snoc}
+use lib.Seq.{take_all, drop-length, drop-drop, get_or-drop, set_split, take-suc-set, drop-set-lt, append_snoc, paste, paste-zero, paste-suc, length-paste}
 use Rattle.gathering.specs.Gathering.{two_bytes, behind_table, room_in, length_at}
 use Rattle.gathering.specs.Parts.{Span, PartsOf}
 
@@ -93,3 +93,34 @@ pub length-put : (state : List ℕ) (at count : ℕ) → at + 2 ≤ length state
     set (set state at (count % 256)) (at + 1) (count / 256 % 256) ≡ take at state ++ (two_bytes count ++ drop (at + 2) state)
 unfolding two_bytes
 length-put state at count h = two-stored state at (count % 256) (count / 256 % 256) h
+
+-- While bytes are copied: the first i bytes stand in the state.
+pub record Copied (bytes : List ℕ) (at : ℕ) (before state : List ℕ) (i : ℕ) : Type 0 where
+  pub some : i ≤ length bytes
+  pub fit : at + length bytes ≤ length before
+  pub is : state ≡ paste before at bytes i
+
+pub copied-start : (bytes : List ℕ) (at : ℕ) (state : List ℕ) → at + length bytes ≤ length state → Copied bytes at state state 0
+copied-start bytes at state h = record { some = omega arith; fit = h; is = paste-zero state at bytes }
+
+module _ {bytes : List ℕ} {at : ℕ} {before state : List ℕ} {i : ℕ} (copied : Copied bytes at before state i) where
+  pub copied-long : length state ≡ length before
+  copied-long = ap length copied.is ∙ length-paste before at bytes i (omega (arith, copied.some, copied.fit)) copied.some
+
+  pub copied-inside : i < length bytes → at + i < length state
+  copied-inside h = omega (arith, h, copied.fit, copied-long)
+
+  pub copied_next : i < length bytes → Copied bytes at before (set state (at + i) (get_or bytes i 0)) (i + 1)
+  copied_next h =
+      let next : suc i ≡ i + 1 = omega arith in
+      record {
+        some = omega (arith, h);
+        fit = copied.fit;
+        is = ap (λ (l : List ℕ). set l (at + i) (get_or bytes i 0)) copied.is ∙ paste-suc before at bytes i 0 (omega (arith, h, copied.fit)) h ∙
+            ap (paste before at bytes) next;
+      }
+
+  pub copied_all : length bytes ≤ i → state ≡ paste before at bytes (length bytes)
+  copied_all h =
+      let all : i ≡ length bytes = omega (arith, h, copied.some) in
+      copied.is ∙ ap (paste before at bytes) all

@@ -77,5 +77,7 @@ pub fn copy(bytes: &[u8], at: usize, state: &mut [u8])
     requires { at + length bytes.now ≤ length state.old }
     ensures { state.new ≡ paste state.old at bytes.now (length bytes.now) }
 {
-    state[at..at + bytes.len()].copy_from_slice(bytes);
+    for (i, &byte) in bytes.iter().enumerate() {
+        state[at + i] = byte;
+    }
 }

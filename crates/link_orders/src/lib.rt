@@ -52,9 +52,7 @@ pub fn by_list(list: &[u8]) -> LinkOrder
     requires { is_reading_order list.now ≡ true }
     ensures { Fitting result × (earlier_by result ≡ by_reading list.now) }
 {
-    let mut copy = [0u8; FEATURES];
-    copy.copy_from_slice(list);
-    LinkOrder::ByList(copy)
+    LinkOrder::ByList(list.try_into().unwrap())
 }
 
 // The place of each feature in a list of all 64 features, each once.

@@ -1,11 +1,14 @@
--- `copy` meets its contract.
-use mathlib.Core.Path.{refl}
-use native.Mathlib.Omega.{arith}
-use Rattle.std.proofs.lemmas.Slice.{put_mid-paste}
+use Rattle.gathering.proofs.Spans.{copied-start, copied-inside, copied_next, copied_all}
 use Rattle.gathering.proofs.parts.copy.Goals as goal
 
-pub overflow_add-at : goal.overflow_add-at
-overflow_add-at c = omega (arith, c.requires)
+pub loop-i-init : goal.loop-i-init
+loop-i-init c = copied-start c.args.bytes.now c.args.at c.args.state.now c.requires
+
+pub bounds-state-at : goal.bounds-state-at
+bounds-state-at c = copied-inside c.loop-i.invariant c.loop-i-test.true
+
+pub loop-i-preserved : goal.loop-i-preserved
+loop-i-preserved c = copied_next c.loop-i.invariant c.loop-i-test.true
 
 pub returns : goal.returns
-returns c = put_mid-paste c.args.at _ c.args.state.now _ c.args.bytes.now _ c.copy_from_slice.ensures.after (omega arith) refl
+returns c = copied_all c.loop-i.invariant c.loop-i-test.false
