@@ -1,6 +1,6 @@
 // Makes a planning table of a graph in words: its rows and its node bytes. The nodes keep the numbers that they have in the words.
 
-ghost use Rattle.std.specs.Prelude.{◌≡◌, ◌*◌, ◌≤◌, length};
+ghost use Rattle.std.specs.Prelude.{◌≡◌, ◌*◌, ◌≤◌, ◌<◌, length};
 ghost use Rattle.graphs.specs.Large.{links_in};
 ghost use Rattle.layout.specs.Layout.{rows_of, size};
 ghost use Rattle.rows.specs.Rows.{filled, lent_nodes, lent_rows};
@@ -18,11 +18,15 @@ pub fn count_links(graph: &[u16]) -> usize
     rows - layout::HEADER * nodes
 }
 
-// Fills the first rows with those of a graph, sorted by parent and then by feature. The other rows stay.
+// Fills the first rows with those of a graph, sorted by parent and then by feature. The other rows stay, and all of them do where they are too few.
 pub fn lend_rows(graph: &[u16], rows: &mut [Row])
-    requires { Lendable graph.now × (links_in (rows_of graph.now) ≤ length rows.old) }
-    ensures { rows.new ≡ filled (lent_rows (rows_of graph.now)) rows.old }
+    requires { Lendable graph.now }
+    ensures enough { links_in (rows_of graph.now) ≤ length rows.old → rows.new ≡ filled (lent_rows (rows_of graph.now)) rows.old }
+    ensures few { length rows.old < links_in (rows_of graph.now) → rows.new ≡ rows.old }
 {
+    if rows.len() < count_links(graph) {
+        return;
+    }
     let count = graph[0] as usize;
     let mut next = 0;
     for v in 0..count {

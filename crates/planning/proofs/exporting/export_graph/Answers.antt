@@ -29,9 +29,10 @@ pub lend_nodes-requires : goal.lend_nodes-requires
 lend_nodes-requires c = (lendable c.requires.0 c.renumber.ensures c.if-not-renumber.false, c.if-nodes-count.false)
 
 pub lend_rows-requires : goal.lend_rows-requires
-lend_rows-requires c = (lendable c.requires.0 c.renumber.ensures c.if-not-renumber.false, omega (arith, c.if-rows-links.false, c.count_links-links.ensures))
+lend_rows-requires c = lendable c.requires.0 c.renumber.ensures c.if-not-renumber.false
 
 pub returns : goal.returns
 returns c =
     export-filled c.requires.0 c.renumber.ensures c.if-not-renumber.false c.args.rows.now c.args.nodes.now c.count_links-links.ensures (search rules)
-    (omega (arith, c.if-rows-links.false, c.count_links-links.ensures)) c.if-nodes-count.false c.lend_rows.ensures c.lend_nodes.ensures
+    (omega (arith, c.if-rows-links.false, c.count_links-links.ensures)) c.if-nodes-count.false
+    (c.lend_rows.ensures.enough (omega (arith, c.if-rows-links.false, c.count_links-links.ensures))) c.lend_nodes.ensures

@@ -4,7 +4,7 @@ use Rattle.rows.proofs.LentRows.{making-start, making-inside, making-room, makin
 use Rattle.rows.proofs.lending.lend_rows.Goals as goal
 
 pub loop-v-init : goal.loop-v-init
-loop-v-init c = making-start c.requires.0 c.requires.1
+loop-v-init c = making-start c.requires (omega (arith, c.if-rows-count_links.false, c.count_links.ensures))
 
 pub overflow_cast-rows-in-loop-word-2 : goal.overflow_cast-rows-in-loop-word-2
 overflow_cast-rows-in-loop-word-2 c =
@@ -31,4 +31,4 @@ loop-v-preserved c =
     making-row c.loop-word.invariant c.loop-v-test.true ends
 
 pub returns : goal.returns
-returns c = making-done c.loop-v.invariant c.loop-v-test.false
+returns c = record { enough = λ _. making-done c.loop-v.invariant c.loop-v-test.false; few = λ h. absurd (omega (arith, h, c.loop-v.invariant.room)) }
