@@ -3,4 +3,5 @@ pub mod Owning
 pub mod Marking
 pub mod Ordering
 pub mod Leading
+pub mod Apart
 pub mod LinkMarks

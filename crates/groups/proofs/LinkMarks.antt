@@ -3,24 +3,12 @@ use mathlib.Core.Path.{◌≡◌, ◌∙◌, ap}
 use mathlib.Core.Bool.{Bool, cond}
 use Prim.Native.Nat.{ℕ}
 use native.Mathlib.Decide.{ℕ_discrete}
-use native.Mathlib.Omega.{arith}
 use borrow.Author.Tests.{ne_eqb}
 use lib.Dec.{eqb}
 use Rattle.groups.specs.LinkMarks.{link_mark_of}
 use Rattle.groups.specs.declared.LinkMark.{LinkMark}
 use Rattle.groups.specs.declared.LinkMark.TheVariants.{Follows, Leads, Bare}
-
--- The three marks differ.
-
-module _ {mark : LinkMark} where
-  follows-leads : mark ≡ Follows → mark ≡ Leads → ⊥
-  follows-leads p q = let z : ◌≡◌ {A = ℕ} 0 1 = cc in omega arith
-
-  follows-bare : mark ≡ Follows → mark ≡ Bare → ⊥
-  follows-bare p q = let z : ◌≡◌ {A = ℕ} 0 1 = cc in omega arith
-
-  leads-bare : mark ≡ Leads → mark ≡ Bare → ⊥
-  leads-bare p q = let z : ◌≡◌ {A = ℕ} 0 1 = cc in omega arith
+use Rattle.groups.proofs.Apart.{follows-leads, follows-bare, leads-bare}
 
 -- The mark of each byte.
 
